@@ -1,9 +1,10 @@
 -- What a crash, a cut and a command of a node that is down do.
-use Rattle.std.proofs.Common.{◌≡◌, ℕ, ◌&&◌, ◌||◌, not, Bool, true, false, if◌then◌else◌, List, Option, Some, None, is_some, inl, inr, refl, sym, ap, ◌∙◌, subst}
-use Rattle.std.specs.Prelude.{set, slice_get, nat_lt, nat_le, option_map, option_and_then}
+use Rattle.std.proofs.Common.{◌≡◌, ℕ, ◌&&◌, not, Bool, true, false, if◌then◌else◌, List, Option, Some, inl, inr, refl, sym, ap, ◌∙◌, subst, arith}
+use Rattle.std.specs.Prelude.{slice_get, nat_lt, option_map, option_and_then}
 use Rattle.std.proofs.lemmas.Bool.{and_cases, or_parts, ltb-false, le-leb}
+use Rattle.std.proofs.lemmas.Grind.{common_steps}
 use Rattle.line_forms.specs.declared.tokens.OutcomeToken.{OutcomeToken}
-use Rattle.gate_journal.specs.Laws.{is_added, opens_gate}
+use Rattle.gate_journal.specs.Laws.{is_added}
 use Rattle.plasma_tx.proofs.Names.{some_same}
 use Rattle.schedule_text.specs.declared.line.Line.{Line}
 use Rattle.schedule_text.specs.declared.command.Command.{Command}
@@ -14,10 +15,8 @@ use Rattle.world_rules.specs.World.{Role, Node, World, with_node, any_role, numb
 use Rattle.world_rules.specs.Declarations.{plays}
 use Rattle.world_rules.specs.Deeds.{Deed, adds_record, deed_of}
 use Rattle.world_rules.specs.Orders.{order_of}
-use Rattle.node_replies.specs.Orders.{with_record}
-use Rattle.world_rules.specs.Steps.{LineEffect, says, without_offers, with_records, after_crash, with_mail, step, stopped, finished, cut, is_stopped, is_opening, answers_down, outcome_of, act_at, act_on, command_effect, cut_effect, commanded, down, crashed, effect_in}
+use Rattle.world_rules.specs.Steps.{LineEffect, says, without_offers, with_records, after_crash, with_mail, step, stopped, finished, cut, is_stopped, is_opening, answers_down, outcome_of, act_at, act_on, command_effect, cut_effect, down, crashed, effect_in}
 use Rattle.world_rules.specs.Laws.{CrashesLeaveTheRecords, IsCommandIn, StaysDown, DownNodesStay, IsCutTo, CutsKeepAsAppendsDo, CutOpeningsLeaveTheRecords}
-use Rattle.world_rules.specs.Acts.{done}
 use Rattle.world_rules.proofs.Lines.{effects_are_of_acts}
 use Rattle.world_rules.proofs.Lives.{stepped}
 
@@ -26,9 +25,7 @@ step-is : (dig : List ℕ → List ℕ) (world : World) (line : Line) (effect ba
     → effect_in dig world line ≡ Some bare → step dig (Some world) line ≡ Some effect → effect ≡ with_mail bare
 step-is dig world line effect bare bare_is is =
     let made = stepped dig world line effect is in
-    sym made.effect_is
-    ∙ ap with_mail (some_same (done dig world made.act) bare
-    (sym (effects_are_of_acts dig world line made.act made.act_is) ∙ bare_is))
+    grind (arith, common_steps, some_same, effects_are_of_acts)
 
 -- what is done with a node that has the name
 acts : (world : World) (may : Role → Bool) (name : List ℕ) (act : ℕ → Node → Option LineEffect) (n : ℕ) (node : Node)
@@ -55,13 +52,7 @@ crashes_leave_the_records dig world name outcome n node effect number node_is is
 -- ---- nodes that are down
 
 down-of : (world : World) (effect : LineEffect) → effect ≡ with_mail (down world) → StaysDown world effect
-down-of world effect is = record {
-  reply = ap (λ e. e.reply) is;
-  done = ap (λ e. e.done) is;
-  made = ap (λ e. e.made) is;
-  event = ap (λ e. e.event) is;
-  same = ap (λ e. e.world) is;
-}
+down-of world effect is = grind (arith, common_steps)
 
 command-in : (dig : List ℕ → List ℕ) (world : World) (command : Command) (n : ℕ) (node : Node)
     → number_of (plays command) world (node_of command) ≡ Some n → slice_get world.nodes n ≡ Some node
@@ -83,8 +74,7 @@ down_nodes_stay dig world line command n node effect line_is number node_is is_d
     down-of world effect (step-is dig world line effect (down world) (by line_is) is)
   where
     commanded-down : command_effect dig world command n node ≡ Some (down world)
-    commanded-down = ap (λ b. if b then Some (down world)
-        else option_map (commanded world n node) (deed_of dig world n node command)) is_down
+    commanded-down = grind (arith, common_steps)
 
     by : IsCommandIn line command → effect_in dig world line ≡ Some (down world)
     by (inl alone) =
@@ -113,34 +103,13 @@ cut-is dig world name calls outcome command n node deed effect number node_is up
 
 -- a deed that adds no record leaves the records
 none-added : (node : Node) (deed : Deed) → adds_record deed ≡ false → with_records node deed ≡ node
-none-added node deed none =
-    let parts = or_parts (is_some deed.note) (is_some deed.leaf) none in
-    ap (λ notes. record node { notes = notes; leaves = with_record node.leaves deed.leaf })
-    (no-more node.notes deed.note parts.0)
-    ∙ ap (λ leaves. record node { leaves = leaves }) (no-more node.leaves deed.leaf parts.1)
-  where
-    no-more : (records : List (List ℕ)) (more : Option (List ℕ)) → is_some more ≡ false
-        → with_record records more ≡ records
-    no-more records None none = refl
-    no-more records (Some body) none = absurd (cc none)
+none-added node deed none = grind (arith, common_steps, or_parts)
 
 -- a command that isn't stopped leaves the records that the law of appends leaves
 kept-so : (node : Node) (deed : Deed) (calls : ℕ) (outcome : OutcomeToken)
     → (adds_record deed && nat_lt calls 4) ≡ false
     → with_records node deed ≡ (if is_added calls (outcome_of outcome) then with_records node deed else node)
-kept-so node deed calls outcome long =
-    elim (and_cases (adds_record deed) (nat_lt calls 4) long) [
-      | inl none ↦ same (is_added calls (outcome_of outcome)) (none-added node deed none)
-      | inr many ↦
-          sym (ap
-          (λ b. if b || (nat_le 2 calls && opens_gate (outcome_of outcome)) then with_records node deed else node)
-          (le-leb 4 calls (ltb-false calls 4 many)))
-    ]
-  where
-    same : (b : Bool) → with_records node deed ≡ node
-        → with_records node deed ≡ (if b then with_records node deed else node)
-    same true is = refl
-    same false is = is
+kept-so node deed calls outcome long = grind (arith, common_steps, and_cases, none-added, le-leb, ltb-false)
 
 module _ (world : World) (n : ℕ) (node : Node) (calls : ℕ) (outcome : OutcomeToken) (command : Command)
     (deed : Deed) where
@@ -151,10 +120,7 @@ module _ (world : World) (n : ℕ) (node : Node) (calls : ℕ) (outcome : Outcom
       then says Reply.Stopped (without_offers n deed.gives.event)
       (with_node world n (after_crash (with_records node deed)))
       else says Reply.Stopped (Other n) (with_node world n (after_crash node))))
-  stopped-to true after is =
-      record { nodes = ap (λ a. set world.nodes n (after_crash a)) (sym is); done = refl; reply = refl }
-  stopped-to false after is =
-      record { nodes = ap (λ a. set world.nodes n (after_crash a)) (sym is); done = refl; reply = refl }
+  stopped-to kept after is = grind (arith, common_steps)
 
   -- the node that a stop leaves
   abbrev left : Node
@@ -179,11 +145,7 @@ module _ (world : World) (n : ℕ) (node : Node) (calls : ℕ) (outcome : Outcom
           (if b then stopped world n node calls outcome command deed else finished world n node deed))
       by true stops ends =
           stopped-to (not (is_opening command) && is_added calls (outcome_of outcome)) after (stops refl)
-      by false stops ends = record {
-        nodes = ap (λ a. set world.nodes n (after_crash a)) (sym (ends refl));
-        done = refl;
-        reply = refl;
-      }
+      by false stops ends = grind (arith, common_steps)
 
 pub cuts_keep_as_appends_do : CutsKeepAsAppendsDo
 cuts_keep_as_appends_do dig world name calls outcome command n node deed effect number node_is up other deed_is is =

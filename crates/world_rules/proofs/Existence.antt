@@ -1,22 +1,17 @@
 -- What is found in a list stands there.
-use Rattle.std.proofs.Common.{◌≡◌, ◌<◌, ℕ, Bool, true, false, if◌then◌else◌, List, length, Some, None, inl, inr, refl, sym, ap, ◌∙◌, arith}
-use Rattle.std.specs.Prelude.{slice_get, nat_lt}
+use Rattle.std.proofs.Common.{◌≡◌, ◌<◌, ℕ, Bool, true, List, length, Some, inl, inr, sym, ap, ◌∙◌, arith}
+use Rattle.std.specs.Prelude.{slice_get}
 use Rattle.std.specs.List.{position, position_or_len}
 use Rattle.std.proofs.lemmas.Bool.{ltb-true}
 use Rattle.std.proofs.lemmas.List.Quantifiers.{position-Some}
 use Rattle.std.proofs.lemmas.Option.{slice_get_cases}
+use Rattle.std.proofs.lemmas.Grind.{common_steps}
 use Rattle.plasma_tx.proofs.Names.{some_same}
 
 -- the first place that passes is inside the list
 pub position-parts : {X : Type 0} (p : X → Bool) (xs : List X) (i : ℕ) → position p xs ≡ Some i
     → (position_or_len p xs ≡ i) × (position_or_len p xs < length xs)
-position-parts p xs i is = by (nat_lt (position_or_len p xs) (length xs)) refl is
-  where
-    by : (b : Bool) → nat_lt (position_or_len p xs) (length xs) ≡ b
-        → (if b then Some (position_or_len p xs) else None) ≡ Some i
-        → (position_or_len p xs ≡ i) × (position_or_len p xs < length xs)
-    by true test is = (some_same (position_or_len p xs) i is, ltb-true (position_or_len p xs) (length xs) test)
-    by false test is = absurd (cc is)
+position-parts p xs i is = grind (arith, common_steps, some_same, ltb-true)
 
 -- an element that passes stands there
 pub position-is : {X : Type 0} (p : X → Bool) (xs : List X) (i : ℕ) → position p xs ≡ Some i

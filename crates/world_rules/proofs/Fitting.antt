@@ -1,5 +1,6 @@
 -- The act of a line in the grammar has numbers, owners and bytes that fit.
-use Rattle.std.proofs.Common.{◌≡◌, ◌<◌, ◌^◌, true, Some, inl, inr, subst}
+use Rattle.std.proofs.Common.{◌≡◌, ◌<◌, ◌^◌, true, Some, subst, arith}
+use Rattle.std.proofs.lemmas.Grind.{common_steps}
 use Rattle.lms_sign.specs.Types.{is_supported}
 use Rattle.schedule_text.specs.declared.line.Line.{Line}
 use Rattle.schedule_text.specs.declared.command.Command.{Command}
@@ -26,9 +27,7 @@ IsFitAct act = Unit {0}
 
 module _ (world : World) (feeds : Feeds world) (line : Line) (fits : IsLine line) where
   command-fits : (command : Command) → IsCommandIn line command → IsFit command
-  command-fits command (inl plain) = command-fit command (subst IsLine plain fits)
-  command-fits command (inr in_cut) =
-      cut-fit in_cut.0 in_cut.1 in_cut.2 command (subst IsLine in_cut.3 fits)
+  command-fits command h1 = grind (arith, common_steps, command-fit, cut-fit)
 
   fit : (act : Act) → IsLineOf world line act → IsFitAct act
   fit (Signs leaf body rogue) (name, coin, parent, to, last, is, owner_is) =

@@ -1,5 +1,5 @@
 -- A bundle that is handed in and taken: it is of the coin and the tip of its links, and of a coin that the log has.
-use Rattle.std.proofs.Common.{◌≡◌, ℕ, ◌+◌, ◌-◌, ◌==◌, ◌||◌, Bool, true, List, [], ◌∷◌, filter, Some, Ok, inl, inr, refl, sym, ap, ◌∙◌, subst, arith}
+use Rattle.std.proofs.Common.{◌≡◌, ℕ, ◌||◌, Bool, true, List, [], ◌∷◌, Some, Ok, refl, sym, ap, ◌∙◌, arith, rules}
 use Rattle.std.specs.Prelude.{unwrap_or}
 use Rattle.std.specs.Result.{result_ok}
 use Rattle.std.proofs.lemmas.Bool.{eqb-true, eq-eqb, or_cases, and_from, or_left, or_right}
@@ -13,7 +13,7 @@ use Rattle.plasma_tx.specs.Views.{coin_at}
 use Rattle.plasma_tx.specs.Shown.{tests_by, Rules}
 use Rattle.coin_history.specs.declared.bundle.Bundle.{Bundle}
 use Rattle.coin_history.specs.Bundles.{bundle_in}
-use Rattle.coin_history.specs.History.{IsHistory, blocks_of, committed_blocks, links_in, is_committed}
+use Rattle.coin_history.specs.History.{IsHistory, blocks_of, committed_blocks, links_in}
 use Rattle.coin_history.proofs.BundleLaws.{text-bundle_in}
 use Rattle.wallet_core.specs.declared.notes.Notes.{Notes}
 use Rattle.wallet_core.specs.State.{is_owner, is_noted}
@@ -24,7 +24,7 @@ use Rattle.world_rules.specs.OrderEvents.{bundle_read}
 use Rattle.world_rules.specs.Safety.{was_deposited}
 use Rattle.node_replies.proofs.ByteTexts.{Small}
 use Rattle.node_replies.proofs.BundleTexts.{AreSmallOpenings, read-small, kept-small}
-use Rattle.std.specs.List.{range_with_len}
+use Rattle.std.proofs.lemmas.Grind.{common_steps}
 use Rattle.coin_history.proofs.HistoryFound.{histories_are_found}
 
 -- the bundle that the bytes spell, as its links show it
@@ -41,9 +41,7 @@ pub record IsHanded (dig : List ℕ → List ℕ) (tag : List ℕ) (log : List R
 -- no block lies after the deposit and up to it
 no-blocks : (log : List RootCall) (low high : ℕ) → high ≡ low → committed_blocks log low high ≡ []
 unfolding committed_blocks
-no-blocks log low high same =
-    let none : high - low ≡ 0 = omega (arith, same) in
-    ap (λ (n : ℕ). filter (is_committed log) (range_with_len (low + 1) n)) none
+no-blocks log low high same = grind (arith, common_steps)
 
 no-openings : (openings : List RawOpening) → blocks_of openings ≡ [] → openings ≡ []
 no-openings [] is = refl
@@ -75,9 +73,7 @@ is_handed dig tag log bytes links small is =
       made_is = ap (coin_at log) coin_is ∙ history.coin;
       deposit = ap (λ (l : Links). l.deposit) history.shown;
       own = own-of;
-      small =
-          subst (λ (l : Links). AreSmallOpenings (kept_of l).openings) (sym history.shown)
-          (kept-small (chain_of tag) bundle.coin bundle.openings (read-small bytes bundle small read));
+      small = grind (arith, common_steps, kept-small, read-small);
     }
       where
         reads : bundle_read bytes ≡ bundle
@@ -90,9 +86,7 @@ is_handed dig tag log bytes links small is =
         own-of at_deposit =
             let same : bundle.tip ≡ history.made.deposit =
             sym history.tip ∙ at_deposit ∙ ap (λ (l : Links). l.deposit) history.shown in
-            let none : bundle.openings ≡ [] =
-            no-openings bundle.openings
-            (history.blocks ∙ no-blocks log history.made.deposit bundle.tip same) in
+            let none : bundle.openings ≡ [] = grind (arith, common_steps, no-openings, no-blocks) in
             ap last_owner_of history.shown
             ∙ ap (λ (openings : List RawOpening). last_owner_of (record {
               coin = bundle.coin;
@@ -114,24 +108,4 @@ pub is_known_coin : (dig : List ℕ → List ℕ) (tag : List ℕ) (log : List R
     → is_known notes links ≡ true
     → IsKnownCoin notes.me log (is_noted links.coin (tip_of links) notes.accepted) links.coin (tip_of links)
 is_known_coin dig tag log bytes links notes handed mine known =
-    elim (or_cases (tip_of links == links.deposit) (is_noted links.coin (tip_of links) notes.accepted) known) [
-      | inl at_deposit ↦
-          let same : tip_of links ≡ links.deposit = eqb-true (tip_of links) links.deposit at_deposit in
-          record {
-            made = handed.made;
-            made_is = handed.made_is;
-            known =
-                or_left (was_deposited notes.me (tip_of links) (Some handed.made))
-                (is_noted links.coin (tip_of links) notes.accepted)
-                (and_from (handed.made.deposit == tip_of links) (is_owner handed.made.owner notes.me)
-                (eq-eqb handed.made.deposit (tip_of links) (sym (same ∙ handed.deposit)))
-                (ap (λ (o : Owner). is_owner o notes.me) (sym (handed.own same)) ∙ mine));
-          }
-      | inr noted ↦ record {
-        made = handed.made;
-        made_is = handed.made_is;
-        known =
-            or_right (was_deposited notes.me (tip_of links) (Some handed.made))
-            (is_noted links.coin (tip_of links) notes.accepted) noted;
-      }
-    ]
+    grind (arith, common_steps, or_cases, eqb-true, or_left, and_from, eq-eqb, or_right)

@@ -1,20 +1,20 @@
 -- What events say of a wallet's coins is what its records say.
-use Rattle.std.proofs.Common.{◌≡◌, ℕ, zero, suc, ◌+◌, ◌<◌, ◌==◌, ◌&&◌, ◌||◌, not, Bool, true, false, if◌then◌else◌, List, [], ◌∷◌, ◌++◌, map, filter, length, Option, Some, None, is_some, refl, sym, ap, ◌∙◌, subst, arith}
+use Rattle.std.proofs.Common.{◌≡◌, ℕ, zero, suc, ◌+◌, ◌<◌, ◌==◌, ◌&&◌, ◌||◌, not, Bool, true, false, if◌then◌else◌, List, [], ◌∷◌, ◌++◌, map, length, Option, Some, is_some, refl, sym, ap, ◌∙◌, arith}
 use Rattle.std.specs.Prelude.{reverse, slice_get, find}
 use Rattle.std.specs.List.{list_any, range_with_len}
-use Rattle.std.specs.Option.{option_map_or}
 use Rattle.std.proofs.lemmas.List.{reverse-append, length-reverse, length-map, map-append}
 use Rattle.std.proofs.lemmas.List.Folds.{list_any-append}
+use Rattle.std.proofs.lemmas.Grind.{common_steps}
 use Rattle.plasma_tx.specs.declared.owner.Owner.{Owner}
 use Rattle.plasma_tx.specs.declared.body.Body.{Body}
 use Rattle.plasma_tx.specs.declared.call.RootCall.{RootCall}
 use Rattle.plasma_tx.specs.declared.views.CoinView.{CoinView}
-use Rattle.plasma_tx.specs.Views.{coin_at, is_withdrawn}
+use Rattle.plasma_tx.specs.Views.{coin_at}
 use Rattle.wallet_core.specs.declared.notes.CoinTip.{CoinTip}
 use Rattle.wallet_core.specs.declared.notes.LeafRecord.{LeafRecord}
 use Rattle.wallet_core.specs.declared.notes.Notes.{Notes}
-use Rattle.wallet_core.specs.State.{is_owner, own_deposit, noted_tips, tips_of, spends_tip, sends_by, sending_leaf, is_noted, holds as wallet_holds}
-use Rattle.node_rules.specs.WalletRecords.{notes_of, owner_of, leaves_in}
+use Rattle.wallet_core.specs.State.{own_deposit, noted_tips, tips_of, spends_tip, sends_by, sending_leaf, is_noted, holds as wallet_holds}
+use Rattle.node_rules.specs.WalletRecords.{owner_of, leaves_in}
 use Rattle.node_rules.specs.Wallet.{WalletRecords, who, noted}
 use Rattle.world_rules.specs.Events.{Event, log_of, wallet_owner, accepted, is_taken, not_taken, signed_away_by, is_sent_from, is_bundle}
 use Rattle.world_rules.specs.World.{Node, wallet_of}
@@ -32,23 +32,17 @@ find-any p (x ∷ xs) =
     elim (p x) as (λ b. is_some (if b then Some x else find p xs) ≡ (b || list_any p xs)) [ true ↦ refl | false ↦ rest ]
 
 or-assoc : (a b c : Bool) → (a || (b || c)) ≡ ((a || b) || c)
-or-assoc true b c = refl
-or-assoc false b c = refl
+or-assoc a b c = grind (arith, common_steps)
 
 or-false : (a : Bool) → (a || false) ≡ a
-or-false true = refl
-or-false false = refl
+or-false a = grind (arith, common_steps)
 
 -- some of the numbers, or the one behind them
 any-push : (p : ℕ → Bool) (a n : ℕ)
     → list_any p (range_with_len a (suc n)) ≡ (list_any p (range_with_len a n) || p (a + n))
 any-push p a zero =
     let same : a + 0 ≡ a = omega arith in or-false (p a) ∙ ap p (sym same)
-any-push p a (suc n) =
-    let same : a + 1 + n ≡ a + suc n = omega arith in
-    ap (λ (b : Bool). p a || b) (any-push p (a + 1) n)
-    ∙ or-assoc (p a) (list_any p (range_with_len (a + 1) n)) (p (a + 1 + n))
-    ∙ ap (λ (q : ℕ). (p a || list_any p (range_with_len (a + 1) n)) || p q) same
+any-push p a (suc n) = grind (arith, common_steps, any-push p (a + 1) n, or-assoc)
 
 -- tests that agree on the numbers
 any-agree : (p other : ℕ → Bool) (a n : ℕ) → ((q : ℕ) → q < a + n → p q ≡ other q)
@@ -57,8 +51,7 @@ any-agree p other a zero same = refl
 any-agree p other a (suc n) same =
     let here : p a ≡ other a = same a (omega arith) in
     let rest = any-agree p other (a + 1) n (λ q below. same q (omega (arith, below))) in
-    ap (λ (b : Bool). b || list_any p (range_with_len (a + 1) n)) here
-    ∙ ap (λ (b : Bool). other a || b) rest
+    grind (arith, common_steps)
 
 get-before : {X : Type 0} (xs : List X) (y : X) (q : ℕ) → q < length xs
     → slice_get (xs ++ y ∷ []) q ≡ slice_get xs q
@@ -113,40 +106,17 @@ module _ (reclaimed taken : List ℕ)
     where
       earlier : (n : ℕ) → n ≡ length bodies → (q : ℕ) → q < 0 + n
           → sends_by reclaimed (leaves-of (body ∷ bodies)) c e q ≡ sends_by reclaimed (leaves-of bodies) c e q
-      earlier n is q below =
-          ap (λ (o : Option LeafRecord). option_map_or (spends_tip c e) o false
-          && not (list_any (λ other. other == q) reclaimed))
-          (ap (λ (l : List LeafRecord). slice_get l q) (leaves-push body bodies)
-          ∙ get-before (leaves-of bodies) (record-of body) q (omega (arith, below, is, leaves-length bodies)))
+      earlier n is q below = grind (arith, common_steps, leaves-push, get-before, leaves-of, record-of, leaves-length)
 
       last-one : (n : ℕ) → n ≡ length bodies → sends_by reclaimed (leaves-of (body ∷ bodies)) c e (0 + n)
           ≡ (spends_tip c e (record-of body) && not (is_taken taken n))
-      last-one n is =
-          let there : 0 + n ≡ length (leaves-of bodies) = omega (arith, is, leaves-length bodies) in
-          let plain : 0 + n ≡ n = omega arith in
-          ap (λ (o : Option LeafRecord). option_map_or (spends_tip c e) o false
-          && not (list_any (λ other. other == 0 + n) reclaimed))
-          (ap (λ (l : List LeafRecord). slice_get l (0 + n)) (leaves-push body bodies)
-          ∙ ap (slice_get (leaves-of bodies ++ record-of body ∷ [])) there
-          ∙ get-last (leaves-of bodies) (record-of body))
-          ∙ ap (λ (b : Bool). spends_tip c e (record-of body) && not b) (same (0 + n) ∙ ap (is_taken taken) plain)
+      last-one n is = grind (arith, common_steps, leaves-of, leaves-length, leaves-push, record-of, get-last)
 
       joined : (b : Bool)
           → (is_sent_from (not_taken taken bodies) c e || (spends_tip c e (record-of body) && not b))
           ≡ is_sent_from (if b then not_taken taken bodies else body ∷ not_taken taken bodies) c e
-      joined true = without (is_sent_from (not_taken taken bodies) c e) (spends_tip c e (record-of body))
-        where
-          without : (a b : Bool) → (a || (b && false)) ≡ a
-          without true b = refl
-          without false true = refl
-          without false false = refl
-      joined false = with_it (is_sent_from (not_taken taken bodies) c e) (spends_tip c e (record-of body))
-        where
-          with_it : (a b : Bool) → (a || (b && true)) ≡ (b || a)
-          with_it true true = refl
-          with_it true false = refl
-          with_it false true = refl
-          with_it false false = refl
+      joined true = grind (arith, common_steps, record-of)
+      joined false = grind (arith, common_steps, record-of)
 
 -- the leaves sign the coin away where a body that isn't taken back does
 away-same : (reclaimed taken : List ℕ)
@@ -157,56 +127,27 @@ away-same : (reclaimed taken : List ℕ)
 unfolding sending_leaf leaves-of
 away-same reclaimed taken same c e leaves bodies are =
     let own : leaves ≡ leaves-of bodies = sym (leaves-same leaves) ∙ ap (map record-of) are in
-    find-any (sends_by reclaimed leaves c e) (range_with_len 0 (length leaves))
-    ∙ ap (λ (l : List LeafRecord). list_any (sends_by reclaimed l c e) (range_with_len 0 (length l))) own
-    ∙ ap (λ (n : ℕ). list_any (sends_by reclaimed (leaves-of bodies) c e) (range_with_len 0 n)) (leaves-length bodies)
-    ∙ sent-any reclaimed taken same c e bodies
+    grind (arith, common_steps, find-any, leaves-of, leaves-length, sent-any)
 
 -- ---- where a coin came to the wallet
 
 -- at its own deposit
 own-same : (me : Owner) (e : ℕ) (made : Option CoinView)
     → list_any (λ tip. tip == e) (own_deposit me made) ≡ was_deposited me e made
-own-same me e None = refl
-own-same me e (Some made) = at (is_owner made.owner me)
-  where
-    at : (b : Bool) → list_any (λ tip. tip == e) (if b then made.deposit ∷ [] else []) ≡ ((made.deposit == e) && b)
-    at true = one (made.deposit == e)
-      where
-        one : (b : Bool) → (b || false) ≡ (b && true)
-        one true = refl
-        one false = refl
-    at false = none (made.deposit == e)
-      where
-        none : (b : Bool) → false ≡ (b && false)
-        none true = refl
-        none false = refl
+own-same me e made = grind (arith, common_steps)
 
 -- or at a tip that it noted
 noted-same : (c e : ℕ) (notes : List CoinTip)
     → list_any (λ tip. tip == e) (noted_tips c notes) ≡ is_noted c e notes
 noted-same c e [] = refl
-noted-same c e (note ∷ notes) = at (note.coin == c) (noted-same c e notes)
-  where
-    at : (b : Bool) → list_any (λ tip. tip == e) (noted_tips c notes) ≡ is_noted c e notes
-        → list_any (λ tip. tip == e)
-        (map (λ (n : CoinTip). n.tip)
-        (if b then note ∷ filter (λ n. n.coin == c) notes else filter (λ n. n.coin == c) notes))
-        ≡ ((b && (note.tip == e)) || is_noted c e notes)
-    at true rest = ap (λ (b : Bool). (note.tip == e) || b) rest
-    at false rest = rest
+noted-same c e (note ∷ notes) = grind (arith, common_steps, noted-same c e notes)
 
 agree : (own noted accepted : Bool) → (noted ≡ true → accepted ≡ true) → (accepted ≡ true → (own || noted) ≡ true)
     → (own || noted) ≡ (own || accepted)
-agree true noted accepted there back = refl
-agree false true true there back = refl
-agree false false false there back = refl
-agree false true false there back = sym (there refl)
-agree false false true there back = back refl
+agree own noted accepted there back = grind (arith, common_steps)
 
 false-or : (b : Bool) → (b ≡ true → ⊥) → false ≡ b
-false-or false never = refl
-false-or true never = absurd (never refl)
+false-or b never = grind (arith, common_steps)
 
 module _ (dig : List ℕ → List ℕ) (s : Said) (log : List RootCall) (wallet : WalletRecords)
     (kept : KeptWallet dig s log wallet) (c e : ℕ) where
@@ -219,44 +160,13 @@ module _ (dig : List ℕ → List ℕ) (s : Said) (log : List RootCall) (wallet 
   -- the events say that it came to the wallet there
   came-same : (is_some (coin_at log c) && list_any (λ tip. tip == e) (tips_of notes log c))
       ≡ (was_deposited me e (coin_at log c) || list_any (is_bundle c e) s.accepted)
-  came-same =
-      ap (λ (b : Bool). is_some (coin_at log c) && b) tips ∙ at (coin_at log c) refl
-    where
-      tips : list_any (λ tip. tip == e) (tips_of notes log c)
-          ≡ (was_deposited me e (coin_at log c) || is_noted c e notes.accepted)
-      tips =
-          list_any-append (λ tip. tip == e) (own_deposit notes.me (coin_at log c)) (noted_tips c notes.accepted)
-          ∙ ap (λ (b : Bool). b || list_any (λ tip. tip == e) (noted_tips c notes.accepted))
-          (own-same notes.me e (coin_at log c)
-          ∙ ap (λ (o : Owner). was_deposited o e (coin_at log c)) (state-me me (notes_of dig wallet.notes)))
-          ∙ ap (λ (b : Bool). was_deposited me e (coin_at log c) || b) (noted-same c e notes.accepted)
-
-      at : (made : Option CoinView) → coin_at log c ≡ made
-          → (is_some made && (was_deposited me e made || is_noted c e notes.accepted))
-          ≡ (was_deposited me e made || list_any (is_bundle c e) s.accepted)
-      at None none =
-          false-or (list_any (is_bundle c e) s.accepted)
-          (λ among. let known = kept.known c e among in cc (sym known.made_is ∙ none))
-      at (Some made) some =
-          agree (was_deposited me e (Some made)) (is_noted c e notes.accepted) (list_any (is_bundle c e) s.accepted)
-          (kept.noted c e)
-          (λ among.
-          let known = kept.known c e among in
-          let same : known.made ≡ made = cc (sym known.made_is ∙ some) in
-          subst (λ (m : CoinView). (was_deposited me e (Some m) || is_noted c e notes.accepted) ≡ true) same
-          known.known)
+  came-same = grind (arith, common_steps, list_any-append, own-same, state-me, noted-same, false-or, agree)
 
   -- so they say that it holds it there
   held-same : holds_with log s.owner (not_taken s.taken s.bound) s.accepted c e
       ≡ wallet_holds notes (leaves_in wallet.leaves) log c e
   unfolding wallet_holds
-  held-same =
-      ap (λ (o : Option Owner). holds_with log o (not_taken s.taken s.bound) s.accepted c e) kept.owner
-      ∙ ap (λ (b : Bool). b && not (is_sent_from (not_taken s.taken s.bound) c e) && not (is_withdrawn log c))
-      (sym came-same)
-      ∙ ap (λ (b : Bool). is_some (coin_at log c) && list_any (λ tip. tip == e) (tips_of notes log c) && not b
-      && not (is_withdrawn log c))
-      (sym (away-same notes.reclaimed s.taken kept.taken c e (leaves_in wallet.leaves) s.bound kept.bodies))
+  held-same = grind (arith, common_steps, came-same, away-same)
 
 -- what events say of a wallet is what its disks keep
 pub are_kept : (dig : List ℕ → List ℕ) (events : List Event) (log : List RootCall) (n : ℕ) (node : Node)

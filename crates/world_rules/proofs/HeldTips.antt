@@ -1,18 +1,19 @@
 -- The blocks at which a wallet ever held a coin are among its tips, and the greatest of them is its held tip.
-use Rattle.std.proofs.Common.{◌≡◌, ◌⊎◌, ℕ, ◌≤◌, ◌==◌, ◌&&◌, ◌||◌, max, not, map, filter, Bool, true, false, if◌then◌else◌, List, [], ◌∷◌, Option, Some, None, inl, inr, refl, sym, ap, ◌∙◌, subst, arith}
+use Rattle.std.proofs.Common.{◌≡◌, ◌⊎◌, ℕ, ◌≤◌, ◌==◌, ◌&&◌, ◌||◌, max, map, filter, Bool, true, false, if◌then◌else◌, List, [], ◌∷◌, Option, Some, None, inl, inr, refl, arith}
 use Rattle.std.specs.List.{list_any}
 use Rattle.std.specs.Option.{option_map_or}
 use Rattle.std.proofs.lemmas.Bool.{cases_lt, and_parts, or_cases, or_left, or_right, eqb-true, eq-eqb, false≢true}
 use Rattle.std.proofs.lemmas.List.Folds.{list_any-append}
+use Rattle.std.proofs.lemmas.Grind.{common_steps}
 use Rattle.plasma_tx.specs.declared.owner.Owner.{Owner}
 use Rattle.plasma_tx.specs.declared.call.RootCall.{RootCall}
 use Rattle.plasma_tx.specs.declared.views.CoinView.{CoinView}
-use Rattle.plasma_tx.specs.Views.{coin_at, is_withdrawn}
+use Rattle.plasma_tx.specs.Views.{coin_at}
 use Rattle.coin_history.specs.declared.bundle.Bundle.{Bundle}
 use Rattle.coin_history.proofs.HistoryGrow.{coin_at-grown}
-use Rattle.wallet_core.specs.State.{is_owner, greatest}
-use Rattle.world_rules.specs.Events.{Event, Joins, Accepts, log_of, wallet_owner, accepted, signed_away_by, is_sent_from, is_bundle}
-use Rattle.world_rules.specs.Safety.{was_deposited, holds_with, holds}
+use Rattle.wallet_core.specs.State.{greatest}
+use Rattle.world_rules.specs.Events.{Event, log_of, wallet_owner, accepted, is_bundle}
+use Rattle.world_rules.specs.Safety.{was_deposited, holds}
 use Rattle.world_rules.specs.Verdicts.{ever_held, own_deposit_of, possible_tips, held_tip}
 
 -- ---- the greatest of some numbers that pass a test
@@ -25,9 +26,7 @@ has-filter : (p : ℕ → Bool) (e : ℕ) (xs : List ℕ) → has e xs ≡ true 
 has-filter p e [] is passes = is
 has-filter p e (x ∷ xs) is passes = elim (or_cases (x == e) (has e xs) is) [
   | inl here ↦
-      let same : x ≡ e = eqb-true x e here in
-      subst (λ (b : Bool). has e (if b then x ∷ filter p xs else filter p xs) ≡ true)
-      (sym (ap p same ∙ passes)) (or_left (x == e) (has e (filter p xs)) here)
+      grind (arith, common_steps, eqb-true, or_left)
   | inr later ↦ kept (p x) (has-filter p e xs later passes)
 ]
   where
@@ -38,15 +37,7 @@ has-filter p e (x ∷ xs) is passes = elim (or_cases (x == e) (has e xs) is) [
 -- and what is among them passes
 filter-passes : (p : ℕ → Bool) (e : ℕ) (xs : List ℕ) → has e (filter p xs) ≡ true → p e ≡ true
 filter-passes p e [] is = absurd (false≢true is)
-filter-passes p e (x ∷ xs) is = at (p x) refl is (filter-passes p e xs)
-  where
-    at : (b : Bool) → p x ≡ b → has e (if b then x ∷ filter p xs else filter p xs) ≡ true
-        → (has e (filter p xs) ≡ true → p e ≡ true) → p e ≡ true
-    at true passes among rest = elim (or_cases (x == e) (has e (filter p xs)) among) [
-      | inl here ↦ ap p (sym (eqb-true x e here)) ∙ passes
-      | inr later ↦ rest later
-    ]
-    at false fails among rest = rest among
+filter-passes p e (x ∷ xs) is = grind (arith, common_steps, filter-passes p e xs, or_cases, eqb-true)
 
 greatest-some : (xs : List ℕ) (e : ℕ) → has e xs ≡ true → (m : ℕ) × (greatest xs ≡ Some m)
 unfolding greatest
@@ -57,18 +48,7 @@ greatest-some (x ∷ xs) e is = (option_map_or (max x) (greatest xs) x, refl)
 greatest-has : (xs : List ℕ) (m : ℕ) → greatest xs ≡ Some m → has m xs ≡ true
 unfolding greatest
 greatest-has [] m is = absurd (cc is)
-greatest-has (x ∷ xs) m is = at (greatest xs) is (greatest-has xs)
-  where
-    at : (o : Option ℕ) → Some (option_map_or (max x) o x) ≡ Some m
-        → ((y : ℕ) → o ≡ Some y → has y xs ≡ true) → ((x == m) || has m xs) ≡ true
-    at None same rest = or_left (x == m) (has m xs) (eq-eqb x m (cc same))
-    at (Some y) same rest =
-        let top : max x y ≡ m = cc same in
-        elim (cases_lt x y) [
-          | inl below ↦ or_right (x == m) (has m xs)
-              (let is_y : y ≡ m = omega arith in subst (λ (k : ℕ). has k xs ≡ true) is_y (rest y refl))
-          | inr above ↦ or_left (x == m) (has m xs) (eq-eqb x m (omega arith))
-        ]
+greatest-has (x ∷ xs) m is = grind (arith, common_steps, greatest-has xs, or_left, eq-eqb, cases_lt, or_right)
 
 -- and none is greater
 greatest-le : (xs : List ℕ) (m e : ℕ) → greatest xs ≡ Some m → has e xs ≡ true → e ≤ m
@@ -106,20 +86,13 @@ pub record IsCoin (log : List RootCall) (c : ℕ) : Type 0 where
 pub coin-stays : (event : Event) (events : List Event) (c : ℕ) (made : CoinView)
     → coin_at (log_of events) c ≡ Some made → coin_at (log_of (event ∷ events)) c ≡ Some made
 unfolding log_of
-coin-stays (Joins call) events c made is = coin_at-grown (log_of events) call c made is
-coin-stays event events c made is = is
+coin-stays event events c made is = grind (arith, common_steps, coin_at-grown)
 
 accepted-stay : (event : Event) (events : List Event) (w c e : ℕ)
     → list_any (is_bundle c e) (accepted events w) ≡ true
     → list_any (is_bundle c e) (accepted (event ∷ events) w) ≡ true
 unfolding accepted
-accepted-stay (Accepts v bundle) events w c e is = at (v == w)
-  where
-    at : (b : Bool)
-        → list_any (is_bundle c e) (if b then bundle ∷ accepted events w else accepted events w) ≡ true
-    at true = or_right (is_bundle c e bundle) (list_any (is_bundle c e) (accepted events w)) is
-    at false = is
-accepted-stay event events w c e is = is
+accepted-stay event events w c e is = grind (arith, common_steps, or_right)
 
 -- ---- tips
 
@@ -132,46 +105,20 @@ pub record IsTip (events : List Event) (w c e : ℕ) : Type 0 where
 deposited-stays : (event : Event) (events : List Event) (me : Owner) (c e : ℕ)
     → was_deposited me e (coin_at (log_of events) c) ≡ true
     → was_deposited me e (coin_at (log_of (event ∷ events)) c) ≡ true
-deposited-stays event events me c e is = at (coin_at (log_of events) c) refl is
-  where
-    at : (o : Option CoinView) → coin_at (log_of events) c ≡ o → was_deposited me e o ≡ true
-        → was_deposited me e (coin_at (log_of (event ∷ events)) c) ≡ true
-    at None none wrong = absurd (false≢true wrong)
-    at (Some made) some own = ap (was_deposited me e) (coin-stays event events c made some) ∙ own
+deposited-stays event events me c e is = grind (arith, common_steps, false≢true, coin-stays)
 
 first : (a b c : Bool) → (a && b && c) ≡ true → a ≡ true
-first true b c is = refl
-first false b c is = is
+first a b c is = grind (arith, common_steps)
 
 holds-tip : (events : List Event) (w c e : ℕ) → holds events w c e ≡ true → IsTip events w c e
 unfolding holds
-holds-tip events w c e is = at (wallet_owner events w) refl is
-  where
-    at : (o : Option Owner) → wallet_owner events w ≡ o
-        → holds_with (log_of events) o (signed_away_by events w) (accepted events w) c e ≡ true → IsTip events w c e
-    at None none wrong = absurd (false≢true wrong)
-    at (Some me) some held = record {
-      me = me;
-      owner = some;
-      at = first (was_deposited me e (coin_at (log_of events) c) || list_any (is_bundle c e) (accepted events w))
-          (not (is_sent_from (signed_away_by events w) c e)) (not (is_withdrawn (log_of events) c)) held;
-    }
+holds-tip events w c e is = grind (arith, common_steps, false≢true, first)
 
 tip-stays : (event : Event) (events : List Event) (w c e : ℕ)
     → ((v : ℕ) (me : Owner) → wallet_owner events v ≡ Some me → wallet_owner (event ∷ events) v ≡ Some me)
     → IsTip events w c e → IsTip (event ∷ events) w c e
-tip-stays event events w c e stay tip = record {
-  me = tip.me;
-  owner = stay w tip.me tip.owner;
-  at =
-      elim (or_cases (was_deposited tip.me e (coin_at (log_of events) c))
-      (list_any (is_bundle c e) (accepted events w)) tip.at) [
-        | inl own ↦ or_left (was_deposited tip.me e (coin_at (log_of (event ∷ events)) c))
-            (list_any (is_bundle c e) (accepted (event ∷ events) w)) (deposited-stays event events tip.me c e own)
-        | inr taken ↦ or_right (was_deposited tip.me e (coin_at (log_of (event ∷ events)) c))
-            (list_any (is_bundle c e) (accepted (event ∷ events) w)) (accepted-stay event events w c e taken)
-      ];
-}
+tip-stays event events w c e stay tip =
+    grind (arith, common_steps, or_cases, or_left, deposited-stays, or_right, accepted-stay)
 
 -- a block at which the wallet ever held the coin is such a block
 pub ever-tip : (events : List Event) (w c e : ℕ) → OwnersStay events → ever_held events w c e ≡ true
@@ -186,11 +133,7 @@ ever-tip (event ∷ events) w c e stay is =
 
 own-has : (me : Owner) (e : ℕ) (o : Option CoinView) → was_deposited me e o ≡ true
     → has e (own_deposit_of (Some me) o) ≡ true
-own-has me e None is = is
-own-has me e (Some made) is =
-    let parts = and_parts (made.deposit == e) (is_owner made.owner me) is in
-    subst (λ (b : Bool). has e (if b then made.deposit ∷ [] else []) ≡ true) (sym parts.1)
-    (or_left (made.deposit == e) false parts.0)
+own-has me e o is = grind (arith, common_steps, and_parts, or_left)
 
 taken-has : (c e : ℕ) (bundles : List Bundle) → list_any (is_bundle c e) bundles ≡ true
     → has e (map (λ bundle. bundle.tip) (filter (λ bundle. bundle.coin == c) bundles)) ≡ true
@@ -198,9 +141,7 @@ taken-has c e [] is = is
 taken-has c e (bundle ∷ bundles) is =
     elim (or_cases (is_bundle c e bundle) (list_any (is_bundle c e) bundles) is) [
       | inl here ↦
-          let parts = and_parts (bundle.coin == c) (bundle.tip == e) here in
-          subst (λ (b : Bool). has e (tips_with b bundle bundles) ≡ true) (sym parts.0)
-          (or_left (bundle.tip == e) (has e (tips bundles)) parts.1)
+          grind (arith, common_steps, and_parts, or_left)
       | inr later ↦ more (bundle.coin == c) (taken-has c e bundles later)
     ]
   where
@@ -216,20 +157,7 @@ taken-has c e (bundle ∷ bundles) is =
     more false rest = rest
 
 tip-has : (events : List Event) (w c e : ℕ) → IsTip events w c e → has e (possible_tips events w c) ≡ true
-tip-has events w c e tip =
-    list_any-append (λ x. x == e) (own_deposit_of (wallet_owner events w) (coin_at (log_of events) c)) taken
-    ∙ ap (λ (o : Option Owner). has e (own_deposit_of o (coin_at (log_of events) c)) || has e taken) tip.owner
-    ∙ elim (or_cases (was_deposited tip.me e (coin_at (log_of events) c))
-    (list_any (is_bundle c e) (accepted events w)) tip.at) [
-      | inl own ↦ or_left (has e own_tips) (has e taken) (own-has tip.me e (coin_at (log_of events) c) own)
-      | inr other ↦ or_right (has e own_tips) (has e taken) (taken-has c e (accepted events w) other)
-    ]
-  where
-    taken : List ℕ
-    taken = map (λ bundle. bundle.tip) (filter (λ bundle. bundle.coin == c) (accepted events w))
-
-    own_tips : List ℕ
-    own_tips = own_deposit_of (Some tip.me) (coin_at (log_of events) c)
+tip-has events w c e tip = grind (arith, common_steps, list_any-append, or_cases, or_left, own-has, or_right, taken-has)
 
 -- ---- the held tip
 
@@ -240,10 +168,7 @@ pub record IsHeldTip (events : List Event) (w c tip : ℕ) : Type 0 where
 
 held-among : (events : List Event) (w c e : ℕ) → OwnersStay events → ever_held events w c e ≡ true
     → has e (filter (ever_held events w c) (possible_tips events w c)) ≡ true
-held-among events w c e stay held =
-    has-filter (ever_held events w c) e (possible_tips events w c)
-    (tip-has events w c e (ever-tip events w c e stay held))
-    held
+held-among events w c e stay held = grind (arith, common_steps, has-filter, tip-has, ever-tip)
 
 pub held_tip-is : (events : List Event) (w c tip : ℕ) → OwnersStay events → held_tip events w c ≡ Some tip
     → IsHeldTip events w c tip

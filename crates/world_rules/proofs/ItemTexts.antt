@@ -1,7 +1,8 @@
 -- The operator's openings are bytes.
-use Rattle.std.proofs.Common.{ℕ, zero, suc, ◌==◌, nat_lt, Bool, true, false, if◌then◌else◌, List, [], ◌∷◌, ◌++◌, map, filter, length}
+use Rattle.std.proofs.Common.{ℕ, zero, suc, List, [], ◌∷◌, ◌++◌, map, filter, length, arith}
 use Rattle.std.specs.Prelude.{slice_index_or, not}
 use Rattle.std.specs.List.{AllByRecursion, concat, range_with_len}
+use Rattle.std.proofs.lemmas.Grind.{common_steps}
 use Rattle.sparse_merkle.specs.declared.tree.Entry.{Entry}
 use Rattle.sparse_merkle.specs.MaskedPath.{proof_text}
 use Rattle.sparse_merkle.specs.PathProof.{is_default_at, kept_siblings, proof_of_path}
@@ -24,12 +25,7 @@ IsSmallTree tree = AllByRecursion IsSmallEntry tree
 leaf-small : (tree : List Entry) (coin : ℕ) → IsSmallTree tree → Small (leaf_of tree coin)
 unfolding leaf_of
 leaf-small [] coin small = small-nil
-leaf-small (entry ∷ entries) coin small =
-    let rest = leaf-small entries coin small.1 in
-    elim (entry.coin == coin) as (λ b. Small (if b then entry.leaf else leaf_of entries coin)) [
-      | true ↦ small.0
-      | false ↦ rest
-    ]
+leaf-small (entry ∷ entries) coin small = grind (arith, common_steps, leaf-small entries coin small.1)
 
 pub all-join : {X : Type 0} (P : X → Type 0) (xs ys : List X) → AllByRecursion P xs → AllByRecursion P ys
     → AllByRecursion P (xs ++ ys)
@@ -37,18 +33,11 @@ all-join P [] ys first second = second
 all-join P (x ∷ xs) ys first second = (first.0, all-join P xs ys first.1 second)
 
 entry-small : (coin : ℕ) (leaf : List ℕ) → Small leaf → IsSmallTree (entry_of coin leaf)
-entry-small coin [] small = tt
-entry-small coin (byte ∷ bytes) small = (small, tt)
+entry-small coin leaf small = grind (arith, common_steps)
 
 pub tree-with : (tree : List Entry) (coin : ℕ) (leaf : List ℕ) → IsSmallTree tree → Small leaf
     → IsSmallTree (with_leaf tree coin leaf)
-tree-with tree coin leaf small leaf_small =
-    let lower : Entry → Bool = λ entry. nat_lt entry.coin coin in
-    let higher : Entry → Bool = λ entry. nat_lt coin entry.coin in
-    all-join IsSmallEntry (filter lower tree ++ entry_of coin leaf) (filter higher tree)
-    (all-join IsSmallEntry (filter lower tree) (entry_of coin leaf) (all-filter IsSmallEntry lower tree small)
-    (entry-small coin leaf leaf_small))
-    (all-filter IsSmallEntry higher tree small)
+tree-with tree coin leaf small leaf_small = grind (arith, common_steps, all-join, all-filter, entry-small)
 
 -- ---- the operator's openings
 

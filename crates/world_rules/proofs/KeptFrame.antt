@@ -5,13 +5,13 @@ use Rattle.std.specs.List.{AllByRecursion}
 use Rattle.std.specs.Option.{option_or}
 use Rattle.std.specs.Str.{bytes_eq}
 use Rattle.std.proofs.lemmas.Bool.{and_parts}
+use Rattle.std.proofs.lemmas.Grind.{common_steps}
 use Rattle.line_forms.specs.declared.tokens.HexOrName.{HexOrName}
 use Rattle.line_forms.specs.declared.tokens.TheConstants.{OWNER_BYTES}
 use Rattle.line_forms.specs.Tokens.{IsHexOrName}
 use Rattle.plasma_tx.specs.declared.owner.Owner.{Owner}
 use Rattle.plasma_tx.specs.declared.call.RootCall.{RootCall}
-use Rattle.plasma_tx.specs.declared.answer.Answer.{Answer}
-use Rattle.plasma_tx.specs.Chain.{Chain, with_log}
+use Rattle.plasma_tx.specs.Chain.{Chain}
 use Rattle.plasma_tx.specs.Spelling.{owner_in}
 use Rattle.plasma_tx.specs.Views.{blocks}
 use Rattle.plasma_tx.specs.Shown.{tests_by, rules_of}
@@ -28,7 +28,7 @@ use Rattle.node_replies.proofs.ByteTexts.{Small, small-nil, small-take, small-dr
 use Rattle.world_rules.specs.World.{Node, Rogue, World, wallet_of, owner_of_node, owner_of_rogue, is_named, is_wallet_role, rogue_named, owner_named, new_owner_of}
 use Rattle.world_rules.specs.Events.{Declares}
 use Rattle.world_rules.specs.Evidence.{IsOfChain}
-use Rattle.world_rules.specs.Acts.{NewWallet, NewWatcher, NewRogue, Act, Rests, Signs, Adds, Enters, Orders, Crashes, done}
+use Rattle.world_rules.specs.Acts.{NewWallet, Act, done}
 use Rattle.world_rules.proofs.OperatorItems.{AreSmallRecords}
 use Rattle.world_rules.proofs.Said.{told, nothing_said}
 use Rattle.world_rules.proofs.KeptWallet.{KeptWallet, records-push}
@@ -68,14 +68,7 @@ first-frame tag operator most fits = record {
 -- one more mail item
 pub frame-item : (world : World) (item : List ℕ) → HasFrame world → Small item
     → KeptFrame world.chain (world.mail ++ item ∷ []) world.rogues
-frame-item world item frame small = record {
-  tag = frame.tag;
-  tag_long = frame.tag_long;
-  few = frame.few;
-  most = frame.most;
-  mail = records-push world.mail item frame.mail small;
-  rogues = frame.rogues;
-}
+frame-item world item frame small = grind (arith, common_steps, records-push)
 
 module _ (dig : List ℕ → List ℕ) (world : World) (frame : HasFrame world) where
   -- there is room for a call that was accepted
@@ -94,37 +87,7 @@ module _ (dig : List ℕ → List ℕ) (world : World) (frame : HasFrame world) 
   -- an act that fits keeps it
   pub frame-kept : (act : Act) → IsFitAct act → HasFrame (done dig world act).world
   unfolding done log_after
-  frame-kept (Rests reply) fit = frame
-  frame-kept (Signs leaf body rogue) fit = frame
-  frame-kept (Adds name (NewWallet who)) fit = frame
-  frame-kept (Adds name (NewWatcher account)) fit = frame
-  frame-kept (Adds name (NewRogue who)) fit = record {
-    tag = frame.tag;
-    tag_long = frame.tag_long;
-    few = frame.few;
-    most = frame.most;
-    mail = frame.mail;
-    rogues = all-append IsGoodRogue world.rogues _ frame.rogues (good-secret who fit);
-  }
-  frame-kept (Enters origin call) fit = by (is_accepted answer) refl
-    where
-      answer : Answer
-      answer = answer_to (tests_by dig) (rules_of world.chain) world.chain.log call
-
-      by : (b : Bool) → is_accepted answer ≡ b
-          → KeptFrame (with_log world.chain (if b then call ∷ world.chain.log else world.chain.log)) world.mail
-          world.rogues
-      by true taken = record {
-        tag = frame.tag;
-        tag_long = frame.tag_long;
-        few = room call taken;
-        most = frame.most;
-        mail = frame.mail;
-        rogues = frame.rogues;
-      }
-      by false refused = frame
-  frame-kept (Orders place order cut) fit = frame
-  frame-kept (Crashes place) fit = frame
+  frame-kept act fit = grind (arith, common_steps, all-append, good-secret, room)
 
 -- ---- what orders may take
 
@@ -137,9 +100,7 @@ find-in {X} p (y ∷ ys) x is = at (p y) refl is (find-in p ys x)
     at : (b : Bool) → p y ≡ b → (if b then Some y else find p ys) ≡ Some x
         → (find p ys ≡ Some x → (i : ℕ) × (slice_get ys i ≡ Some x) × (p x ≡ true))
         → (i : ℕ) × (slice_get (y ∷ ys) i ≡ Some x) × (p x ≡ true)
-    at true passes is rest =
-        let same : y ≡ x = some_same y x is in
-        (0, ap (λ (z : X). Some z) same, ap p (sym same) ∙ passes)
+    at true passes is rest = grind (arith, common_steps, some_same)
     at false passes is rest = let found = rest is in (suc found.0, found.1, found.2)
 
 hex-owner : (bytes : List ℕ) → Small bytes → length bytes ≡ 64 → IsGoodOwner (owner_in bytes)
@@ -161,8 +122,7 @@ module _ (world : World) (frame : HasFrame world) where
     unfolding owner_of
     wallet-owner name node is =
         let found = find-in (is_named is_wallet_role name) world.nodes node is in
-        good-owner (who (wallet_of node))
-        (fit found.0 node found.1 (and_parts (bytes_eq node.name name) (is_wallet_role node.role) found.2).1)
+        grind (arith, common_steps, good-owner, and_parts)
 
     named-owner : (name : List ℕ) (owner : Owner) → owner_named world name ≡ Some owner → IsGoodOwner owner
     named-owner name owner is =

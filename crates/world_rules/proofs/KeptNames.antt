@@ -1,8 +1,9 @@
 -- What each line of a run keeps: nodes have names of their own, declared wallets stay with their owners, and accepted
 -- bundles are of coins that the log has.
-use Rattle.std.proofs.Common.{◌≡◌, ℕ, ◌==◌, Bool, true, false, if◌then◌else◌, List, [], ◌∷◌, ◌++◌, length, slice_get, Some, inl, inr, refl, sym, ap, ◌∙◌, subst}
+use Rattle.std.proofs.Common.{◌≡◌, ℕ, ◌==◌, Bool, true, false, if◌then◌else◌, List, [], ◌∷◌, ◌++◌, length, slice_get, Some, refl, ap, subst, arith}
 use Rattle.std.specs.List.{list_any}
 use Rattle.std.proofs.lemmas.Bool.{eqb-true, or_cases, and_parts, false≢true}
+use Rattle.std.proofs.lemmas.Grind.{common_steps}
 use Rattle.plasma_tx.specs.declared.owner.Owner.{Owner}
 use Rattle.plasma_tx.specs.declared.call.RootCall.{RootCall}
 use Rattle.coin_history.specs.declared.bundle.Bundle.{Bundle}
@@ -21,20 +22,17 @@ is_plain event = true
 
 plain-log : (event : Event) (events : List Event) → is_plain event ≡ true → log_of (event ∷ events) ≡ log_of events
 unfolding log_of
-plain-log (Joins call) events plain = absurd (false≢true plain)
-plain-log event events plain = refl
+plain-log event events plain = grind (arith, common_steps, false≢true)
 
 plain-owner : (event : Event) (events : List Event) (w : ℕ) → is_plain event ≡ true
     → wallet_owner (event ∷ events) w ≡ wallet_owner events w
 unfolding wallet_owner
-plain-owner (Declares v me) events w plain = absurd (false≢true plain)
-plain-owner event events w plain = refl
+plain-owner event events w plain = grind (arith, common_steps, false≢true)
 
 plain-accepted : (event : Event) (events : List Event) (w : ℕ) → is_plain event ≡ true
     → accepted (event ∷ events) w ≡ accepted events w
 unfolding accepted
-plain-accepted (Accepts v bundle) events w plain = absurd (false≢true plain)
-plain-accepted event events w plain = refl
+plain-accepted event events w plain = grind (arith, common_steps, false≢true)
 
 -- ---- what is kept
 
@@ -56,15 +54,7 @@ coin-kept event events c coin = record { made = coin.made; is = coin-stays event
 
 module _ (nodes : List Card) (log : List RootCall) (events : List Event) (kept : Kept nodes log events) where
   kept-plain : (event : Event) → is_plain event ≡ true → Kept nodes log (event ∷ events)
-  kept-plain event plain = record {
-    log_is = kept.log_is ∙ sym (plain-log event events plain);
-    distinct = kept.distinct;
-    wallets = λ w me is. kept.wallets w me (sym (plain-owner event events w plain) ∙ is);
-    stay = (λ w me is. plain-owner event events w plain ∙ is, kept.stay);
-    known = λ w c e is. coin-kept event events c (kept.known w c e
-        (sym (ap (λ (bundles : List Bundle). list_any (is_bundle c e) bundles)
-        (plain-accepted event events w plain)) ∙ is));
-  }
+  kept-plain event plain = grind (arith, common_steps, plain-log, plain-owner, coin-kept, plain-accepted)
 
   kept-joins : (call : RootCall) → Kept nodes (call ∷ log) (Joins call ∷ events)
   unfolding log_of wallet_owner accepted
@@ -78,42 +68,14 @@ module _ (nodes : List Card) (log : List RootCall) (events : List Event) (kept :
 
   kept-accepts : (n : ℕ) (bundle : Bundle) → IsCoin log bundle.coin → Kept nodes log (Accepts n bundle ∷ events)
   unfolding log_of wallet_owner accepted
-  kept-accepts n bundle coin = record {
-    log_is = kept.log_is;
-    distinct = kept.distinct;
-    wallets = kept.wallets;
-    stay = (λ w me is. is, kept.stay);
-    known = λ w c e. at w c e (n == w);
-  }
-    where
-      at : (w c e : ℕ) (b : Bool)
-          → list_any (is_bundle c e) (if b then bundle ∷ accepted events w else accepted events w) ≡ true
-          → IsCoin (log_of events) c
-      at w c e true is =
-          elim (or_cases (is_bundle c e bundle) (list_any (is_bundle c e) (accepted events w)) is) [
-            | inl here ↦
-                let own : bundle.coin ≡ c =
-                eqb-true bundle.coin c (and_parts (bundle.coin == c) (bundle.tip == e) here).0 in
-                subst (λ (calls : List RootCall). IsCoin calls c) kept.log_is (subst (IsCoin log) own coin)
-            | inr before ↦ kept.known w c e before
-          ]
-      at w c e false is = kept.known w c e is
+  kept-accepts n bundle coin = grind (arith, common_steps, or_cases, eqb-true, and_parts)
 
   -- a node is declared
   grown : (new : Card) (w : ℕ) → IsWallet nodes w → IsWallet (nodes ++ new ∷ []) w
-  grown new w wallet = record {
-    name = wallet.name;
-    is = stays-at nodes new (record { name = wallet.name; role = Wallet }) w wallet.is;
-  }
+  grown new w wallet = grind (arith, common_steps, stays-at)
 
   kept-node : (new : Card) → IsOther new.name nodes → Kept (nodes ++ new ∷ []) log events
-  kept-node new other = record {
-    log_is = kept.log_is;
-    distinct = distinct-push nodes new kept.distinct other;
-    wallets = λ w me is. grown new w (kept.wallets w me is);
-    stay = kept.stay;
-    known = kept.known;
-  }
+  kept-node new other = grind (arith, common_steps, distinct-push, grown)
 
   -- a wallet is declared
   kept-declares : (name : List ℕ) (me : Owner) → IsOther name nodes
@@ -137,10 +99,7 @@ module _ (nodes : List Card) (log : List RootCall) (events : List Event) (kept :
 
       old : (w : ℕ) (who : Owner) → wallet_owner events w ≡ Some who → (b : Bool) → (length nodes == w) ≡ b
           → (if b then Some me else wallet_owner events w) ≡ Some who
-      old w who is true here =
-          let wallet = kept.wallets w who is in
-          absurd (none-past nodes (record { name = wallet.name; role = Wallet })
-          (ap (slice_get nodes) (eqb-true (length nodes) w here) ∙ wallet.is))
+      old w who is true here = grind (arith, common_steps, none-past, eqb-true)
       old w who is false apart = is
 
 -- ---- moves
@@ -160,10 +119,7 @@ pub data Move (nodes after : List Card) (log longer : List RootCall) (event : Ev
 moved : {after : List Card} {longer : List RootCall} {event : Event} {events : List Event} (nodes : List Card)
     (log : List RootCall) (other : Event) → after ≡ nodes → longer ≡ log → event ≡ other
     → Kept nodes log (other ∷ events) → Kept after longer (event ∷ events)
-moved {after} {longer} {event} {events} nodes log other nodes_are log_is event_is kept =
-    subst (λ (x : List Card). Kept x longer (event ∷ events)) (sym nodes_are)
-    (subst (λ (x : List RootCall). Kept nodes x (event ∷ events)) (sym log_is)
-    (subst (λ (x : Event). Kept nodes log (x ∷ events)) (sym event_is) kept))
+moved {after} {longer} {event} {events} nodes log other nodes_are log_is event_is kept = grind (arith, common_steps)
 
 pub kept-move : (nodes after : List Card) (log longer : List RootCall) (event : Event) (events : List Event)
     → Move nodes after log longer event → Kept nodes log events → Kept after longer (event ∷ events)

@@ -1,7 +1,8 @@
 -- What events say of a node is what its records are, and each command keeps it so and makes bytes.
-use Rattle.std.proofs.Common.{◌≡◌, ℕ, ◌^◌, ◌<◌, ◌-◌, ◌==◌, Bool, true, false, if◌then◌else◌, List, [], ◌∷◌, Option, Some, None, refl, sym, ◌∙◌, subst, zero, suc}
+use Rattle.std.proofs.Common.{◌≡◌, ℕ, ◌^◌, ◌<◌, ◌-◌, ◌==◌, Bool, true, false, if◌then◌else◌, List, [], ◌∷◌, Option, Some, None, refl, sym, ◌∙◌, subst, zero, suc, arith}
 use Rattle.std.specs.Prelude.{Result, IfSome, slice_get, unwrap_or, option_map}
 use Rattle.std.proofs.lemmas.Bool.{false≢true}
+use Rattle.std.proofs.lemmas.Grind.{common_steps}
 use Rattle.line_forms.specs.declared.tokens.HexOrItem.{HexOrItem}
 use Rattle.line_forms.specs.declared.tokens.HexOrName.{HexOrName}
 use Rattle.line_forms.specs.declared.tokens.TheConstants.{OWNER_BYTES}
@@ -18,13 +19,13 @@ use Rattle.node_rules.specs.declared.refusal.WalletRefusal.{WalletRefusal}
 use Rattle.node_rules.specs.Wallet.{WalletEffect}
 use Rattle.node_rules.specs.WalletCommandLaws.{with_more, after}
 use Rattle.node_replies.specs.Causes.{wallet_cause}
-use Rattle.world_rules.specs.World.{Role, Wallet, Watcher, Operator, Node, World, wallet_of, is_wallet_role, is_watcher_role, is_operator_role, bytes_of, new_owner_of}
+use Rattle.world_rules.specs.World.{Role, Node, World, wallet_of, is_wallet_role, is_watcher_role, is_operator_role, bytes_of, new_owner_of}
 use Rattle.world_rules.specs.Deeds.{Deed, as_deed}
 use Rattle.node_replies.specs.declared.order.WalletOrder.{WalletOrder}
 use Rattle.node_replies.specs.declared.order.WatcherOrder.{WatcherOrder}
 use Rattle.node_replies.specs.declared.order.OperatorOrder.{OperatorOrder}
 use Rattle.node_replies.specs.declared.order.NodeOrder.{NodeOrder}
-use Rattle.world_rules.specs.Orders.{watch_order, order_of}
+use Rattle.world_rules.specs.Orders.{order_of}
 use Rattle.world_rules.proofs.OrderEnds.{wallet_told}
 use Rattle.plasma_tx.proofs.Names.{some_same}
 use Rattle.node_replies.specs.Orders.{Response, answered, wallet_doing, with_record}
@@ -141,12 +142,7 @@ order-fit world feeds role command order fit is = by command fit is
     by (Command.Operator (OperatorCommand.Lay coin leaf)) fit is =
         subst IsFitOrder (some_same _ order is) (token-small world leaf feeds.mail fit)
     by (Command.Operator own) fit is = subst IsFitOrder (some_same _ order is) tt
-    by (Command.Watch name) fit is = watching role is
-      where
-        watching : (r : Role) → watch_order r ≡ Some order → IsFitOrder order
-        watching Wallet is = subst IsFitOrder (some_same _ order is) tt
-        watching Watcher is = subst IsFitOrder (some_same _ order is) tt
-        watching Operator wrong = absurd (cc wrong)
+    by (Command.Watch name) fit is = grind (arith, common_steps, some_same)
     by (Command.Open name) fit is = subst IsFitOrder (some_same _ order is) tt
 
 -- ---- what a command leaves
@@ -159,48 +155,33 @@ pub record IsKeptDeed (dig : List ℕ → List ℕ) (s : Said) (log : List RootC
 
 pub wallet-alone : (role : Role) → is_wallet_role role ≡ true → (is_watcher_role role ≡ false)
     × (is_operator_role role ≡ false)
-wallet-alone Wallet is = (refl, refl)
-wallet-alone Watcher is = absurd (false≢true is)
-wallet-alone Operator is = absurd (false≢true is)
+wallet-alone role is = grind (arith, common_steps, false≢true)
 
 pub watcher-alone : (role : Role) → is_watcher_role role ≡ true → (is_wallet_role role ≡ false)
     × (is_operator_role role ≡ false)
-watcher-alone Wallet is = absurd (false≢true is)
-watcher-alone Watcher is = (refl, refl)
-watcher-alone Operator is = absurd (false≢true is)
+watcher-alone role is = grind (arith, common_steps, false≢true)
 
 operator-alone : (role : Role) → is_operator_role role ≡ true → (is_wallet_role role ≡ false)
     × (is_watcher_role role ≡ false)
-operator-alone Wallet is = absurd (false≢true is)
-operator-alone Watcher is = absurd (false≢true is)
-operator-alone Operator is = (refl, refl)
+operator-alone role is = grind (arith, common_steps, false≢true)
 
 never : {A : Type 0} (b : Bool) → b ≡ false → b ≡ true → A
 never b off on = absurd (false≢true (sym off ∙ on))
 
 -- records with what a command adds
 records-more : (records : List (List ℕ)) (added : Option (List ℕ)) → with_more added records ≡ with_record records added
-records-more records None = refl
-records-more records (Some body) = refl
+records-more records added = grind (arith, common_steps)
 
 pub records-noted : (records : List (List ℕ)) (added : Option (List ℕ)) → AreSmallRecords records → IfSome added Small
     → AreSmallRecords (with_record records added)
-records-noted records None small one = small
-records-noted records (Some body) small one = records-push records body small one
+records-noted records added small one = grind (arith, common_steps, records-push)
 
 module _ (dig : List ℕ → List ℕ) (s : Said) (log : List RootCall) (node : Node) where
   -- of a wallet
   pub of-wallet : is_wallet_role node.role ≡ true → (deed : Deed)
       → KeptWallet dig (told deed.gives.event s) log (wallet_of (with_records node deed)) → Small deed.gives.made
       → IsKeptDeed dig s log node deed
-  of-wallet role deed kept made = record {
-    kept = record {
-      wallet = λ is. kept;
-      watcher = never (is_watcher_role node.role) (wallet-alone node.role role).0;
-      operator = never (is_operator_role node.role) (wallet-alone node.role role).1;
-    };
-    made = made;
-  }
+  of-wallet role deed kept made = grind (arith, common_steps, never, wallet-alone)
 
   -- by a wallet's effect
   pub by-effect : {A : Type 0} → is_wallet_role node.role ≡ true → (n : ℕ) (order : WalletOrder) (give : A → Response)
@@ -208,33 +189,13 @@ module _ (dig : List ℕ → List ℕ) (s : Said) (log : List RootCall) (node : 
       → KeptWallet dig (told (wallet_told n order give effect.answer) s) log (after effect (wallet_of node))
       → Small (answered wallet_cause give effect.answer).made
       → IsKeptDeed dig s log node (as_deed n (NodeOrder.Wallet order) (wallet_doing give effect))
-  by-effect role n order give effect kept made =
-      of-wallet role (as_deed n (NodeOrder.Wallet order) (wallet_doing give effect))
-      (subst (KeptWallet dig (told (wallet_told n order give effect.answer) s) log)
-      (λ i. record {
-        notes = records-more node.notes effect.note i;
-        leaves = records-more node.leaves effect.leaf i;
-      }) kept) made
+  by-effect role n order give effect kept made = grind (arith, common_steps, of-wallet, told, wallet_told, records-more)
 
   pub of-watcher : is_watcher_role node.role ≡ true → (deed : Deed)
       → KeptWatcher dig (told deed.gives.event s) (with_record node.notes deed.note) → Small deed.gives.made
       → IsKeptDeed dig s log node deed
-  of-watcher role deed kept made = record {
-    kept = record {
-      wallet = never (is_wallet_role node.role) (watcher-alone node.role role).0;
-      watcher = λ is. kept;
-      operator = never (is_operator_role node.role) (watcher-alone node.role role).1;
-    };
-    made = made;
-  }
+  of-watcher role deed kept made = grind (arith, common_steps, never, watcher-alone)
 
   pub of-operator : is_operator_role node.role ≡ true → (deed : Deed)
       → AreSmallRecords (with_record node.notes deed.note) → Small deed.gives.made → IsKeptDeed dig s log node deed
-  of-operator role deed kept made = record {
-    kept = record {
-      wallet = never (is_wallet_role node.role) (operator-alone node.role role).0;
-      watcher = never (is_watcher_role node.role) (operator-alone node.role role).1;
-      operator = λ is. kept;
-    };
-    made = made;
-  }
+  of-operator role deed kept made = grind (arith, common_steps, never, operator-alone)

@@ -1,8 +1,9 @@
 -- Over every run of lines in the grammar, what events say of wallets and watchers is what their disks keep.
-use Rattle.std.proofs.Common.{◌≡◌, ℕ, zero, suc, ◌^◌, ◌<◌, List, [], ◌∷◌, Some, None, refl, subst, ◌∙◌, lit<}
+use Rattle.std.proofs.Common.{◌≡◌, ℕ, zero, suc, ◌^◌, ◌<◌, List, [], ◌∷◌, Some, None, refl, ◌∙◌, lit<, arith}
 use Rattle.std.specs.Prelude.{slice_get}
 use Rattle.std.specs.List.{All}
 use Rattle.std.proofs.lemmas.Bool.{false≢true}
+use Rattle.std.proofs.lemmas.Grind.{common_steps}
 use Rattle.plasma_tx.proofs.Names.{some_same}
 use Rattle.schedule_text.specs.declared.line.Line.{Line}
 use Rattle.schedule_text.specs.Grammar.{IsLine}
@@ -44,13 +45,7 @@ module _ (dig : List ℕ → List ℕ) (tag operator most : ℕ) (fits : most < 
       first = operator_node (new_chain tag operator most)
 
       at : (n : ℕ) (node : Node) → slice_get (first ∷ []) n ≡ Some node → KeptNode dig (said (Idle ∷ []) n) [] node
-      at zero node is =
-          subst (KeptNode dig (said (Idle ∷ []) zero) []) (some_same first node is)
-          (record {
-            wallet = λ role. absurd (false≢true role);
-            watcher = λ role. absurd (false≢true role);
-            operator = λ role. (operator-small, tt);
-          })
+      at zero node is = grind (arith, common_steps, said, some_same, false≢true, operator-small)
       at (suc n) node is = absurd (cc is)
 
 -- ---- runs

@@ -1,7 +1,8 @@
 -- What events say of a wallet and what its records are, and that an accept keeps them one.
-use Rattle.std.proofs.Common.{◌≡◌, ℕ, ◌==◌, Bool, true, List, [], ◌∷◌, ◌++◌, map, Some, refl, sym, ap, ◌∙◌, subst}
+use Rattle.std.proofs.Common.{◌≡◌, ℕ, ◌==◌, Bool, true, List, [], ◌∷◌, ◌++◌, map, Some, refl, arith}
 use Rattle.std.specs.Prelude.{reverse}
 use Rattle.std.specs.List.{list_any}
+use Rattle.std.proofs.lemmas.Grind.{common_steps}
 use Rattle.leaf_journal.specs.Records.{messages_of}
 use Rattle.plasma_tx.specs.declared.owner.Owner.{Owner}
 use Rattle.plasma_tx.specs.declared.call.RootCall.{RootCall}
@@ -9,7 +10,6 @@ use Rattle.plasma_tx.specs.Spelling.{IsOwner}
 use Rattle.coin_history.proofs.HistoryGrow.{coin_at-grown}
 use Rattle.wallet_core.specs.declared.notes.Notes.{Notes}
 use Rattle.wallet_core.specs.State.{is_noted}
-use Rattle.node_rules.specs.declared.identity.WalletIdentity.{WalletIdentity}
 use Rattle.node_rules.specs.WalletRecords.{Note, Accepts as AcceptsNote, who_is, owner_of, state_notes, leaves_in, LeavesWith, Reclaims}
 use Rattle.node_rules.specs.Wallet.{WalletRecords, who, noted}
 use Rattle.node_rules.specs.WalletOpening.{is_wallet}
@@ -19,7 +19,6 @@ use Rattle.world_rules.proofs.OperatorItems.{AreSmallRecords}
 use Rattle.world_rules.proofs.Said.{Said}
 use Rattle.world_rules.proofs.Handed.{IsKnownCoin}
 use Rattle.plasma_tx.proofs.Each.{all-append}
-use Rattle.plasma_tx.specs.declared.body.Body.{Body}
 
 -- what is said of a wallet is what its records are; the records are a wallet's, and bytes
 pub record KeptWallet (dig : List ℕ → List ℕ) (s : Said) (log : List RootCall) (wallet : WalletRecords)
@@ -40,27 +39,11 @@ pub record KeptWallet (dig : List ℕ → List ℕ) (s : Said) (log : List RootC
 -- a longer log
 known-longer : (me : Owner) (log : List RootCall) (call : RootCall) (noted : Bool) (c e : ℕ)
     → IsKnownCoin me log noted c e → IsKnownCoin me (call ∷ log) noted c e
-known-longer me log call noted c e known = record {
-  made = known.made;
-  made_is = coin_at-grown log call c known.made known.made_is;
-  known = known.known;
-}
+known-longer me log call noted c e known = grind (arith, common_steps, coin_at-grown)
 
 pub wallet-longer : (dig : List ℕ → List ℕ) (s : Said) (log : List RootCall) (call : RootCall)
     (wallet : WalletRecords) → KeptWallet dig s log wallet → KeptWallet dig s (call ∷ log) wallet
-wallet-longer dig s log call wallet kept = record {
-  owner = kept.owner;
-  is = kept.is;
-  is_owner = kept.is_owner;
-  tag = kept.tag;
-  notes = kept.notes;
-  messages = kept.messages;
-  bodies = kept.bodies;
-  taken = kept.taken;
-  known = λ c e is.
-      known-longer (owner_of (who wallet)) log call (is_noted c e (noted dig wallet).accepted) c e (kept.known c e is);
-  noted = kept.noted;
-}
+wallet-longer dig s log call wallet kept = grind (arith, common_steps, known-longer)
 
 -- ---- one more note
 
@@ -96,22 +79,4 @@ module _ (dig : List ℕ → List ℕ) (s : Said) (log : List RootCall) (wallet 
 
   pub noting : (body : List ℕ) (now : Notes) (next : Said) → IsNoting body now next
       → KeptWallet dig next log (with_note wallet body)
-  noting body now next new = record {
-    owner =
-        new.owner ∙ kept.owner
-        ∙ ap (λ (w : WalletIdentity). Some (owner_of w)) (sym new.who_same);
-    is = new.is;
-    is_owner = subst (λ (w : WalletIdentity). IsOwner (owner_of w)) (sym new.who_same) kept.is_owner;
-    tag = subst (λ (w : WalletIdentity). Small w.tag) (sym new.who_same) kept.tag;
-    notes = records-push wallet.notes body kept.notes new.small;
-    messages = kept.messages;
-    bodies = kept.bodies ∙ ap (λ (bodies : List Body). reverse bodies) (sym new.bound);
-    taken = λ q. ap (λ (n : Notes). list_any (λ other. other == q) n.reclaimed) new.now_is ∙ new.taken q;
-    known = λ c e is.
-        subst (λ (n : Notes). IsKnownCoin (owner_of (who_is (wallet.notes ++ body ∷ []))) log
-        (is_noted c e n.accepted) c e) (sym new.now_is)
-        (subst (λ (w : WalletIdentity). IsKnownCoin (owner_of w) log (is_noted c e now.accepted) c e)
-        (sym new.who_same) (new.known c e is));
-    noted = λ c e is.
-        new.noted c e (ap (λ (n : Notes). is_noted c e n.accepted) (sym new.now_is) ∙ is);
-  }
+  noting body now next new = grind (arith, common_steps, records-push)

@@ -1,9 +1,10 @@
 -- What events say of a watcher's guards is what its records say, and a guard and a release keep it so.
-use Rattle.std.proofs.Common.{◌≡◌, ℕ, ◌^◌, ◌<◌, ◌==◌, ◌&&◌, ◌||◌, not, Bool, true, false, if◌then◌else◌, List, [], ◌∷◌, ◌++◌, filter, Option, Some, None, Ok, Err, refl, sym, ap, ◌∙◌, subst, lit<}
+use Rattle.std.proofs.Common.{◌≡◌, ℕ, ◌^◌, ◌<◌, ◌==◌, ◌&&◌, ◌||◌, not, Bool, true, false, if◌then◌else◌, List, [], ◌∷◌, ◌++◌, filter, Option, Some, None, Ok, Err, refl, sym, ap, ◌∙◌, subst, lit<, arith}
 use Rattle.std.specs.Prelude.{Result, IfSome}
 use Rattle.std.specs.List.{list_any}
 use Rattle.std.proofs.lemmas.Bool.{eqb-true, eq-eqb, and_parts, and_from, false≢true}
 use Rattle.std.proofs.lemmas.List.Folds.{list_any-append}
+use Rattle.std.proofs.lemmas.Grind.{common_steps}
 use Rattle.node_journal.specs.Effect.{Effect, first_cause, unless, only}
 use Rattle.node_journal.specs.Role.{are_of}
 use Rattle.plasma_tx.specs.declared.links.Links.{Links}
@@ -37,31 +38,13 @@ pub record KeptWatcher (dig : List ℕ → List ℕ) (s : Said) (records : List 
 
 -- the coin and the tip of a kept coin are these
 of-parts : (c e : ℕ) (kept : Bundle) → is_of c e kept ≡ true → (kept.coin ≡ c) × (kept.tip ≡ e)
-of-parts c e kept is =
-    let parts = and_parts (kept.coin == c) (kept.tip == e) is in
-    (eqb-true kept.coin c parts.0, eqb-true kept.tip e parts.1)
+of-parts c e kept is = grind (arith, common_steps, and_parts, eqb-true)
 
 -- some among those that pass, and those that don't
 any-parted : {X : Type 0} (p q : X → Bool) (xs : List X)
     → (list_any p (filter q xs) || list_any p (filter (λ x. not (q x)) xs)) ≡ list_any p xs
 any-parted p q [] = refl
-any-parted {X} p q (x ∷ xs) = at (q x) (any-parted p q xs)
-  where
-    behind : (a b c d : Bool) → (b || c) ≡ d → (b || (a || c)) ≡ (a || d)
-    behind true true c d same = refl
-    behind true false c d same = refl
-    behind false b c d same = same
-
-    before : (a b c d : Bool) → (b || c) ≡ d → ((a || b) || c) ≡ (a || d)
-    before true b c d same = refl
-    before false b c d same = same
-
-    at : (b : Bool) → (list_any p (filter q xs) || list_any p (filter (λ y. not (q y)) xs)) ≡ list_any p xs
-        → (list_any p (if b then x ∷ filter q xs else filter q xs)
-        || list_any p (if not b then x ∷ filter (λ y. not (q y)) xs else filter (λ y. not (q y)) xs))
-        ≡ (p x || list_any p xs)
-    at true rest = before (p x) _ _ _ rest
-    at false rest = behind (p x) _ _ _ rest
+any-parted {X} p q (x ∷ xs) = grind (arith, common_steps, any-parted p q xs)
 
 -- a coin at a tip is guarded with one more guard
 any-guard : (c e : ℕ) (kept : Bundle) (guards : List Bundle)
@@ -77,10 +60,7 @@ any-guard c e kept guards = at (list_any (is_of kept.coin kept.tip) guards) refl
     there : (b : Bool) → is_of c e kept ≡ b → list_any (is_of kept.coin kept.tip) guards ≡ true
         → list_any (is_of c e) guards ≡ (b || list_any (is_of c e) guards)
     there false is known = refl
-    there true is known =
-        let parts = of-parts c e kept is in
-        subst (λ (n : ℕ). list_any (is_of c n) guards ≡ true) parts.1
-        (subst (λ (n : ℕ). list_any (is_of n kept.tip) guards ≡ true) parts.0 known)
+    there true is known = grind (arith, common_steps, of-parts)
 
     moved : (a b d : Bool) → (b || (a || d)) ≡ (a || (b || d))
     moved true true d = refl
@@ -102,22 +82,11 @@ any-guard c e kept guards = at (list_any (is_of kept.coin kept.tip) guards) refl
 any-left : {X : Type 0} (p q : X → Bool) → ((x : X) → q x ≡ true → p x ≡ false) → (xs : List X)
     → list_any p (filter (λ x. not (q x)) xs) ≡ list_any p xs
 any-left p q apart [] = refl
-any-left {X} p q apart (x ∷ xs) = at (q x) refl (any-left p q apart xs)
-  where
-    at : (b : Bool) → q x ≡ b → list_any p (filter (λ y. not (q y)) xs) ≡ list_any p xs
-        → list_any p (if not b then x ∷ filter (λ y. not (q y)) xs else filter (λ y. not (q y)) xs)
-        ≡ (p x || list_any p xs)
-    at true is rest = rest ∙ ap (λ (b : Bool). b || list_any p xs) (sym (apart x is))
-    at false is rest = ap (λ (b : Bool). p x || b) rest
+any-left {X} p q apart (x ∷ xs) = grind (arith, common_steps, any-left p q apart xs)
 
 any-gone : {X : Type 0} (p : X → Bool) (xs : List X) → list_any p (filter (λ x. not (p x)) xs) ≡ false
 any-gone p [] = refl
-any-gone {X} p (x ∷ xs) = at (p x) refl (any-gone p xs)
-  where
-    at : (b : Bool) → p x ≡ b → list_any p (filter (λ y. not (p y)) xs) ≡ false
-        → list_any p (if not b then x ∷ filter (λ y. not (p y)) xs else filter (λ y. not (p y)) xs) ≡ false
-    at true is rest = rest
-    at false is rest = ap (λ (b : Bool). b || list_any p (filter (λ y. not (p y)) xs)) is ∙ rest
+any-gone {X} p (x ∷ xs) = grind (arith, common_steps, any-gone p xs)
 
 -- what is let go of lists that guard the same leaves lists that do
 any-released : (a t c e : ℕ) (one other : List Bundle) → list_any (is_of c e) one ≡ list_any (is_of c e) other
@@ -145,16 +114,7 @@ any-released a t c e one other same = at ((a == c) && (t == e)) refl
         ∙ sym (any-left (is_of c e) (is_of a t) other-coin other)
       where
         other-coin : (kept : Bundle) → is_of a t kept ≡ true → is_of c e kept ≡ false
-        other-coin kept is = by (is_of c e kept) refl
-          where
-            by : (b : Bool) → is_of c e kept ≡ b → b ≡ false
-            by false not_it = refl
-            by true this =
-                let first = of-parts a t kept is in
-                let second = of-parts c e kept this in
-                absurd (false≢true (sym apart
-                ∙ and_from (a == c) (t == e) (eq-eqb a c (sym first.0 ∙ second.0))
-                (eq-eqb t e (sym first.1 ∙ second.1))))
+        other-coin kept is = grind (arith, common_steps, of-parts, false≢true, and_from, eq-eqb)
 
 -- ---- commands
 
@@ -208,19 +168,7 @@ module _ (dig : List ℕ → List ℕ) (s : Said) (log : List RootCall) (records
   guards-known : (n : ℕ) (bytes : List ℕ) (links : Links) → IsHanded dig (who_is records).tag log bytes links
       → list_any (is_of links.coin (tip_of links)) (guards_in dig records) ≡ true
       → KeptWatcher dig (told (Guards n (bundle_read bytes)) s) records
-  guards-known n bytes links handed known = record {
-    is = kept.is;
-    guards = λ c e.
-        ap (λ (b : Bool). b || list_any (is_bundle c e) s.guarded) (handed-of bytes links handed c e)
-        ∙ ap (λ (b : Bool). is_of c e (kept_of links) || b) (kept.guards c e)
-        ∙ sym (any-guard c e (kept_of links) (guards_in dig records))
-        ∙ ap (λ (l : List Bundle). list_any (is_of c e) l) same;
-  }
-    where
-      same : with_guard (kept_of links) (guards_in dig records) ≡ guards_in dig records
-      same = ap (λ (b : Bool). if b then guards_in dig records
-          else filter (λ other. is_before other (kept_of links)) (guards_in dig records)
-          ++ kept_of links ∷ filter (λ other. not (is_before other (kept_of links))) (guards_in dig records)) known
+  guards-known n bytes links handed known = grind (arith, common_steps, handed-of, any-guard)
 
   guards-new : (n : ℕ) (bytes body : List ℕ) (links : Links) → IsHanded dig (who_is records).tag log bytes links
       → KeepsRole dig records body → AddsNote dig records (Guarded (kept_of links)) body

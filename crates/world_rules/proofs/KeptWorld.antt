@@ -1,9 +1,9 @@
 -- What holds of a world behind the events of its lines, and each act that fits keeps it and makes bytes.
-use Rattle.std.proofs.Common.{◌≡◌, ℕ, ◌^◌, ◌<◌, Bool, true, false, if◌then◌else◌, List, [], ◌∷◌, length, Option, Some, None, inl, inr, refl, sym, ap, ◌∙◌, subst}
+use Rattle.std.proofs.Common.{◌≡◌, ℕ, ◌^◌, ◌<◌, Bool, true, false, if◌then◌else◌, List, [], ◌∷◌, length, Option, Some, None, refl, sym, ap, ◌∙◌, subst, arith}
 use Rattle.std.specs.Prelude.{slice_get}
 use Rattle.std.proofs.lemmas.Bool.{eq-eqb, false≢true}
+use Rattle.std.proofs.lemmas.Grind.{common_steps}
 use Rattle.plasma_tx.specs.declared.call.RootCall.{RootCall}
-use Rattle.plasma_tx.specs.Chain.{Chain}
 use Rattle.plasma_tx.specs.Spelling.{body_text}
 use Rattle.plasma_tx.specs.Views.{blocks}
 use Rattle.node_rules.specs.Watcher.{WatcherIdentity, identity_text as watcher_text}
@@ -13,9 +13,9 @@ use Rattle.node_replies.proofs.ByteTexts.{Small, small-nil, small-append, small-
 use Rattle.world_rules.specs.Events.{Event, Declares, Idle, log_of}
 use Rattle.world_rules.specs.World.{Wallet, Watcher, Node, World, wallet_of}
 use Rattle.world_rules.specs.Deeds.{Deed}
-use Rattle.world_rules.specs.Steps.{new_node, with_records, after_crash}
+use Rattle.world_rules.specs.Steps.{new_node, after_crash}
 use Rattle.world_rules.specs.Laws.{IsDigest}
-use Rattle.world_rules.specs.Acts.{Place, NewWallet, NewWatcher, NewRogue, Act, Signs, Adds, Orders, Crashes, End, Whole, Crashed, Kept, Lost, end_of, is_stopped, node_after, deed_at, done}
+use Rattle.world_rules.specs.Acts.{Place, NewWallet, NewWatcher, NewRogue, Act, Signs, Adds, Orders, Crashes, End, end_of, is_stopped, node_after, deed_at, done}
 use Rattle.world_rules.specs.Evidence.{MayOrder, IsActIn}
 use Rattle.world_rules.proofs.Said.{Said, said, nothing_said, told, said-own, said-other}
 use Rattle.world_rules.proofs.KeptWallet.{wallet-longer}
@@ -79,10 +79,7 @@ module _ (dig : List ℕ → List ℕ) where
   node-ended : (s : Said) (log : List RootCall) (n : ℕ) (node : Node) (deed : Deed) (end : End)
       → KeptNode dig s log node → IsKeptDeed dig s log node deed
       → KeptNode dig (told (event_told n deed end) s) log (node_after node deed end)
-  node-ended s log n node deed Whole old new = node-same _ log (with_records node deed) true deed.gives.offers new.kept
-  node-ended s log n node deed Crashed old new = node-same _ log (with_records node deed) false [] new.kept
-  node-ended s log n node deed Kept old new = node-same _ log (with_records node deed) false [] new.kept
-  node-ended s log n node deed Lost old new = node-same s log node false [] old
+  node-ended s log n node deed end old new = grind (arith, common_steps, old, node-same)
 
 module _ (dig : List ℕ → List ℕ) (is_digest : IsDigest dig) (events : List Event) (world : World)
     (kept : KeptWorld dig events world) where
@@ -95,11 +92,7 @@ module _ (dig : List ℕ → List ℕ) (is_digest : IsDigest dig) (events : List
   After act = Holds dig ((done dig world act).event ∷ events) (done dig world act).world.chain.log
 
   old : EachNode Old world.nodes
-  old n = by (slice_get world.nodes n) refl
-    where
-      by : (found : Option Node) → slice_get world.nodes n ≡ found → Old n found
-      by None none = kept.fresh n none
-      by (Some node) some = kept.nodes n node some
+  old n = grind (arith, common_steps)
 
   -- a node's order
   ordered : (place : Place) (order : NodeOrder) → MayOrder world place order → IsFitOrder order
@@ -112,20 +105,11 @@ module _ (dig : List ℕ → List ℕ) (is_digest : IsDigest dig) (events : List
   -- a log that may be longer
   later : (act : Act) (s : Said) (node : Node) → KeptNode dig s world.chain.log node
       → KeptNode dig s (done dig world act).world.chain.log node
-  later act s node has =
-      elim (act-log dig world act) [
-        | inl left ↦ subst (λ (c : Chain). KeptNode dig s c.log node) (sym left.chain) has
-        | inr more ↦
-            subst (λ (c : Chain). KeptNode dig s c.log node) (sym more.chain)
-            (node-longer dig s world.chain.log more.call node has)
-      ]
+  later act s node has = grind (arith, common_steps, act-log, node-longer)
 
   other : (act : Act) (m : ℕ) (found : Option Node) → said ((done dig world act).event ∷ events) m ≡ said events m
       → Old m found → After act m found
-  other act m None same fresh = same ∙ fresh
-  other act m (Some node) same has =
-      subst (λ (s : Said). KeptNode dig s (done dig world act).world.chain.log node) (sym same)
-      (later act (said events m) node has)
+  other act m found same fresh = grind (arith, common_steps, later, said)
 
   own : (act : Act) → IsActIn world act → IsFitAct act
       → IsKeptOwn Old (After act) world.nodes (change_of dig world act)
@@ -195,8 +179,6 @@ module _ (dig : List ℕ → List ℕ) (is_digest : IsDigest dig) (events : List
     where
       each : EachNode (After act) (done dig world act).world.nodes
       each = each_node_keeps Old (After act) dig world act known old (record {
-        others = λ m apart found.
-            other act m found
-            (said-other (done dig world act).event events m (said-others dig world act m apart));
+        others = grind (arith, common_steps, other, said-other, said-others);
         own = own act known fit;
       })

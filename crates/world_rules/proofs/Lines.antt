@@ -1,10 +1,10 @@
 -- What each line is: an act exactly where it keeps the rules of declarations. What is known of that act, of which line
 -- it is, and that the line does what the act does. This file alone goes through all kinds of line.
-use Rattle.std.proofs.Common.{◌≡◌, ℕ, ◌&&◌, not, Bool, true, false, if◌then◌else◌, List, Option, Some, None, is_some, inl, inr, refl, sym, ap, ◌∙◌, subst}
+use Rattle.std.proofs.Common.{◌≡◌, ℕ, ◌&&◌, not, Bool, true, false, if◌then◌else◌, List, Option, Some, None, is_some, inl, inr, refl, sym, ap, ◌∙◌, subst, arith}
 use Rattle.std.specs.Prelude.{option_map, option_and_then, nat_lt}
-use Rattle.std.specs.Option.{option_map_or}
 use Rattle.std.specs.Str.{bytes_eq}
 use Rattle.std.proofs.lemmas.Bool.{not-true, ltb-true, false≢true}
+use Rattle.std.proofs.lemmas.Grind.{common_steps}
 use Rattle.line_forms.specs.declared.tokens.OutcomeToken.{OutcomeToken}
 use Rattle.line_forms.specs.declared.tokens.HexOrName.{HexOrName}
 use Rattle.line_forms.proofs.FormLaws.{option_map_some}
@@ -12,7 +12,6 @@ use Rattle.gate_journal.specs.Laws.{is_added}
 use Rattle.lms_sign.specs.Types.{leaf_count}
 use Rattle.lms_sign.specs.declared.types.LmsTypes.{LmsTypes}
 use Rattle.plasma_tx.specs.declared.owner.Owner.{Owner}
-use Rattle.plasma_tx.specs.declared.call.RootCall.{RootCall}
 use Rattle.plasma_tx.proofs.Names.{some_same}
 use Rattle.schedule_text.specs.declared.line.Line.{Line}
 use Rattle.schedule_text.specs.declared.call_form.CallForm.{CallForm}
@@ -21,13 +20,13 @@ use Rattle.schedule_text.specs.Grammar.{node_of}
 use Rattle.node_rules.specs.declared.identity.WalletIdentity.{WalletIdentity}
 use Rattle.node_replies.specs.declared.reply.Reply.{Reply}
 use Rattle.node_replies.specs.declared.order.NodeOrder.{NodeOrder}
-use Rattle.world_rules.specs.World.{Role, Wallet, Watcher, Operator, Node, Rogue, World, is_wallet_role, any_role, rogue_named, new_owner_of, owner_of_node, call_of}
+use Rattle.world_rules.specs.World.{Role, Node, Rogue, World, is_wallet_role, any_role, rogue_named, new_owner_of, owner_of_node, call_of}
 use Rattle.world_rules.specs.Declarations.{plays, is_declared, has_declared_names, has_leaf_number, declared_wallet, is_wallet_account, keeps_rules, keeps_rules_in}
-use Rattle.world_rules.specs.Orders.{wallet_order, order_of, node_does}
-use Rattle.world_rules.specs.Deeds.{Deed, as_deed, adds_record, deed_of}
-use Rattle.world_rules.specs.Steps.{LineEffect, called, raw_called, deposit_by, offer_numbered, entered, is_opening, answers_down, commanded, down, crashed, outcome_of, finished, cut, act_at, act_on, command_effect, cut_effect, signed_by, signed_body, effect_in, effect_of, with_mail, step}
+use Rattle.world_rules.specs.Orders.{order_of}
+use Rattle.world_rules.specs.Deeds.{Deed, adds_record, deed_of}
+use Rattle.world_rules.specs.Steps.{LineEffect, deposit_by, offer_numbered, entered, is_opening, answers_down, down, outcome_of, finished, cut, act_at, act_on, command_effect, cut_effect, signed_body, effect_in, effect_of, with_mail, step}
 use Rattle.world_rules.specs.Laws.{IsCommandIn, LinesThatKeepTheRulesStep}
-use Rattle.world_rules.specs.Acts.{Place, NewWallet, NewWatcher, NewRogue, Deposits, Raw, Offered, Cut, Act, Rests, Signs, Adds, Enters, Orders, Crashes, only_where, place_named, opens, is_down_for, order_act, command_act, offer_act, act_of, Crashed, Kept, Lost, needs_more, end_of, end_effect, deed_at, done}
+use Rattle.world_rules.specs.Acts.{Place, NewWallet, NewWatcher, NewRogue, Deposits, Raw, Cut, Act, Rests, Signs, Adds, Enters, Orders, Crashes, only_where, place_named, opens, is_down_for, order_act, command_act, offer_act, act_of, Crashed, Kept, Lost, needs_more, end_of, end_effect, deed_at, done}
 use Rattle.world_rules.specs.Evidence.{IsThere, has_order, IsActIn}
 use Rattle.world_rules.specs.ActLaws.{ActsKeepTheRules, EffectsAreOfActs, StepsAreOfActs, ActsAreKnown}
 use Rattle.world_rules.proofs.OrderEnds.{IsOrderAt, order-role}
@@ -61,16 +60,10 @@ pub record IsActOf (world : World) (line : Line) (act : Act) : Type 0 where
 
 -- the node has a role for the order
 has-order : (role : Role) (order : NodeOrder) → IsOrderAt role order → has_order order role ≡ true
-has-order role (NodeOrder.Wallet order) at = at
-has-order role (NodeOrder.Watcher order) at = at
-has-order role (NodeOrder.Operator order) at = at
-has-order role NodeOrder.Open at = refl
+has-order role order h2 = grind (arith, common_steps)
 
 pub order-at : (role : Role) (order : NodeOrder) → has_order order role ≡ true → IsOrderAt role order
-order-at role (NodeOrder.Wallet order) has = has
-order-at role (NodeOrder.Watcher order) has = has
-order-at role (NodeOrder.Operator order) has = has
-order-at role NodeOrder.Open has = tt
+order-at role order has = grind (arith, common_steps)
 
 module _ (world : World) where
   -- ---- the rules
@@ -84,9 +77,7 @@ module _ (world : World) where
           → is_some (option_and_then
           (λ (place : Place). option_map (order_act cut place) (order_of world place.node.role command)) o)
           ≡ (is_declared (plays command) world (node_of command) && has_declared_names world command)
-      by None none =
-          ap (λ b. b && has_declared_names world command)
-          (sym (ap is_some none) ∙ is_some-named world (plays command) (node_of command))
+      by None none = grind (arith, common_steps, is_some-named)
       by (Some place) some =
           is_some-map (order_act cut place) (order_of world place.node.role command)
           ∙ is_some-order world place.node.role command (found world (plays command) (node_of command) place some).role
@@ -99,14 +90,7 @@ module _ (world : World) where
       (λ (owner : Owner). Signs leaf (signed_body world coin parent last owner) signer) to)
       (option_and_then (λ (one : Rogue). only_where (nat_lt leaf (leaf_count one.secret.types)) (Some one)) rogue))
       ≡ (has_leaf_number leaf rogue && is_some to)
-  sign-rule leaf coin parent last None to = refl
-  sign-rule leaf coin parent last (Some rogue) to = by (nat_lt leaf (leaf_count rogue.secret.types))
-    where
-      by : (b : Bool) → is_some (option_and_then (λ (signer : Rogue). option_map
-          (λ (owner : Owner). Signs leaf (signed_body world coin parent last owner) signer) to)
-          (only_where b (Some rogue))) ≡ (b && is_some to)
-      by true = is_some-map (λ (owner : Owner). Signs leaf (signed_body world coin parent last owner) rogue) to
-      by false = refl
+  sign-rule leaf coin parent last rogue to = grind (arith, common_steps, is_some-map)
 
   pub rule : (line : Line) → is_some (act_of world line) ≡ keeps_rules_in world line
   unfolding act_of
@@ -121,11 +105,7 @@ module _ (world : World) where
   rule (Line.Money account) = refl
   rule (Line.Deposit wallet amount) =
       is_some-map _ (place_named is_wallet_role world wallet) ∙ is_some-named world is_wallet_role wallet
-  rule (Line.Call account form) =
-      is_some-where (not (is_wallet_account world account))
-      (option_map (Enters (Raw account)) (call_of world account form))
-      ∙ ap (λ b. not (is_wallet_account world account) && b)
-      (is_some-map (Enters (Raw account)) (call_of world account form))
+  rule (Line.Call account form) = grind (arith, common_steps, is_some-where, is_some-map)
   rule (Line.Enter node number) =
       is_some-map (offer_act number) (place_named any_role world node) ∙ is_some-named world any_role node
   rule (Line.Command command) = command-rule None command
@@ -133,10 +113,7 @@ module _ (world : World) where
       sign-rule leaf coin parent last (rogue_named world rogue) (new_owner_of world to)
   rule (Line.Crash node outcome) =
       is_some-map Crashes (place_named any_role world node) ∙ is_some-named world any_role node
-  rule (Line.Cut node calls outcome command) =
-      let cut : Cut = record { calls = calls; outcome = outcome_of outcome } in
-      is_some-where (bytes_eq (node_of command) node) (command_act world (Some cut) command)
-      ∙ ap (λ b. bytes_eq (node_of command) node && b) (command-rule (Some cut) command)
+  rule (Line.Cut node calls outcome command) = grind (arith, common_steps, is_some-where, command-rule)
 
   -- ---- what a line does
 
@@ -150,14 +127,7 @@ module _ (world : World) where
     opening : (role : Role) (command : Command) (order : NodeOrder) → order_of world role command ≡ Some order
         → is_opening command ≡ opens order
     unfolding order_of
-    opening role (Command.Wallet name own) order is =
-        ap opens (option_map_some NodeOrder.Wallet (wallet_order world own) order is).2
-    opening role (Command.Watcher name own) order is = ap opens (some_same _ order is)
-    opening role (Command.Operator own) order is = ap opens (some_same _ order is)
-    opening Wallet (Command.Watch name) order is = ap opens (some_same _ order is)
-    opening Watcher (Command.Watch name) order is = ap opens (some_same _ order is)
-    opening Operator (Command.Watch name) order is = absurd (cc is)
-    opening role (Command.Open name) order is = ap opens (some_same _ order is)
+    opening role command order is = grind (arith, common_steps, option_map_some, some_same)
 
     module _ (command : Command) (place : Place) (order : NodeOrder)
         (order_is : order_of world place.node.role command ≡ Some order) where
@@ -173,25 +143,12 @@ module _ (world : World) where
           else option_map end (deed_of dig world place.number node command))
           ≡ (if is_down_for order node then Some (down world) else Some (end deed))
       unfolding deed_of
-      given-effect end =
-          ap (λ b. if not node.is_up && not b then Some (down world)
-          else option_map end (deed_of dig world place.number node command))
-          (opening node.role command order order_is)
-          ∙ ap (λ (o : Option NodeOrder). if is_down_for order node then Some (down world)
-          else option_map end
-          (option_map (λ (one : NodeOrder). as_deed place.number one (node_does dig world.chain.log node one)) o))
-          order_is
+      given-effect end = grind (arith, common_steps, opening)
 
       command-done : command_effect dig world command place.number node
           ≡ Some (done dig world (order_act None place order))
       unfolding done
-      command-done = given-effect (commanded world place.number node) ∙ by (is_down_for order node)
-        where
-          by : (b : Bool)
-              → (if b then Some (down world) else Some (commanded world place.number node deed))
-              ≡ Some (done dig world (if b then Rests Reply.Down else Orders place order None))
-          by true = refl
-          by false = refl
+      command-done = grind (arith, common_steps, given-effect)
 
       module _ (calls : ℕ) (outcome : OutcomeToken) where
         abbrev the_cut : Cut
@@ -240,13 +197,7 @@ module _ (world : World) where
     offer-done : (number : ℕ) (place : Place)
         → Some (entered dig world (offer_numbered number place.node)) ≡ Some (done dig world (offer_act number place))
     unfolding done
-    offer-done number place = by (offer_numbered number place.node)
-      where
-        by : (o : Option RootCall)
-            → Some (entered dig world o)
-            ≡ Some (done dig world (option_map_or (Enters (Offered place)) o (Rests Reply.Nothing)))
-        by None = refl
-        by (Some call) = refl
+    offer-done number place = grind (arith, common_steps)
 
   -- ---- each line
 
@@ -264,29 +215,13 @@ module _ (world : World) where
           ≡ Some (done dig world (if b then Rests Reply.Down else Orders one.place one.order cut)))
           → IsActOf world line (if b then Rests Reply.Down else Orders one.place one.order cut)
       by true down effect = record { known = tt; line_is = tt; effect = effect }
-      by false up effect = record {
-        known = record {
-          there = one.at.there;
-          role = has-order one.place.node.role one.order
-              (order-role world one.place.node.role command one.order one.at.role one.order_is);
-          is_up = up;
-        };
-        line_is = (command, in_line, one.order_is);
-        effect = effect;
-      }
+      by false up effect = grind (arith, common_steps, has-order, order-role)
 
   -- by an offer
   offer-is : (line : Line) (number : ℕ) (place : Place) → IsThere world place
       → ((dig : List ℕ → List ℕ) → effect_in dig world line ≡ Some (done dig world (offer_act number place)))
       → IsActOf world line (offer_act number place)
-  offer-is line number place there effect = by (offer_numbered number place.node) refl effect
-    where
-      by : (o : Option RootCall) → offer_numbered number place.node ≡ o
-          → ((dig : List ℕ → List ℕ) → effect_in dig world line
-          ≡ Some (done dig world (option_map_or (Enters (Offered place)) o (Rests Reply.Nothing))))
-          → IsActOf world line (option_map_or (Enters (Offered place)) o (Rests Reply.Nothing))
-      by None none effect = record { known = tt; line_is = tt; effect = effect }
-      by (Some call) some effect = record { known = (there, (number, some)); line_is = tt; effect = effect }
+  offer-is line number place there effect = grind (arith, common_steps)
 
   pub is-act : (line : Line) (act : Act) → act_of world line ≡ Some act → IsActOf world line act
   unfolding act_of effect_in done
@@ -301,8 +236,7 @@ module _ (world : World) where
       })
   is-act (Line.Watcher name account) act is =
       let may = ruled (keeps_rules_in world (Line.Watcher name account)) (Adds name (NewWatcher account)) act is in
-      subst (IsActOf world (Line.Watcher name account)) may.1
-      (record { known = may.0; line_is = refl; effect = λ dig. refl })
+      grind (arith, common_steps)
   is-act (Line.Rogue name account seed types) act is =
       let who : WalletIdentity = declared_wallet world account seed types in
       let may = ruled (keeps_rules_in world (Line.Rogue name account seed types)) (Adds name (NewRogue who)) act is in
@@ -311,36 +245,19 @@ module _ (world : World) where
         line_is = (account, seed, types, refl, refl);
         effect = λ dig. refl;
       })
-  is-act (Line.Fund account amount) act is =
-      subst (IsActOf world (Line.Fund account amount)) (some_same _ act is)
-      (record { known = refl; line_is = tt; effect = λ dig. refl })
-  is-act (Line.Tick time) act is =
-      subst (IsActOf world (Line.Tick time)) (some_same _ act is)
-      (record { known = refl; line_is = tt; effect = λ dig. refl })
-  is-act (Line.Money account) act is =
-      subst (IsActOf world (Line.Money account)) (some_same _ act is)
-      (record { known = tt; line_is = tt; effect = λ dig. refl })
+  is-act (Line.Fund account amount) act is = grind (arith, common_steps, some_same)
+  is-act (Line.Tick time) act is = grind (arith, common_steps, some_same)
+  is-act (Line.Money account) act is = grind (arith, common_steps, some_same)
   is-act (Line.Deposit wallet amount) act is =
       let place = option_map_some
       (λ (place : Place). Enters (Deposits place) (deposit_by amount (owner_of_node place.node)))
       (place_named is_wallet_role world wallet) act is in
-      let at = found world is_wallet_role wallet place.0 place.1 in
-      subst (IsActOf world (Line.Deposit wallet amount)) place.2 (record {
-        known = (at.there, at.role, (amount, refl));
-        line_is = tt;
-        effect = λ dig.
-            ap (option_map (λ (owner : Owner). called dig world (deposit_by amount owner)))
-            (owner-is world wallet place.0 at);
-      })
+      grind (arith, common_steps, found, owner-is)
   is-act (Line.Call account form) act is =
       let may = where-some (not (is_wallet_account world account))
       (option_map (Enters (Raw account)) (call_of world account form)) act is in
       let call = option_map_some (Enters (Raw account)) (call_of world account form) act may.1 in
-      subst (IsActOf world (Line.Call account form)) call.2 (record {
-        known = (not-true (is_wallet_account world account) may.0, (form, call.1));
-        line_is = (form, refl, call.1);
-        effect = λ dig. ap (option_map (raw_called dig world account)) call.1;
-      })
+      grind (arith, common_steps, not-true)
   is-act (Line.Enter node number) act is =
       let place = option_map_some (offer_act number) (place_named any_role world node) act is in
       let at = found world any_role node place.0 place.1 in
@@ -355,22 +272,11 @@ module _ (world : World) where
       ∙ command-done dig command one.place one.order one.order_is)
   is-act (Line.Sign rogue leaf coin parent to last) act is =
       let one = signed world rogue leaf coin parent to last act is in
-      subst (IsActOf world (Line.Sign rogue leaf coin parent to last)) one.act_is (record {
-        known = (ltb-true leaf (leaf_count one.signer.secret.types) one.leaf_is, refl);
-        line_is = (rogue, coin, parent, to, last, refl, one.owner_is);
-        effect = λ dig.
-            ap (option_and_then (λ (owner : Owner). option_map (signed_by world leaf
-            (signed_body world coin parent last owner)) (rogue_named world rogue))) one.owner_is
-            ∙ ap (option_map (signed_by world leaf (signed_body world coin parent last one.owner))) one.signer_is;
-      })
+      grind (arith, common_steps, ltb-true)
   is-act (Line.Crash node outcome) act is =
       let place = option_map_some Crashes (place_named any_role world node) act is in
       let at = found world any_role node place.0 place.1 in
-      subst (IsActOf world (Line.Crash node outcome)) place.2 (record {
-        known = at.there;
-        line_is = tt;
-        effect = λ dig. acted dig any_role node place.0 at (λ n one. Some (crashed world n one));
-      })
+      grind (arith, common_steps, acted)
   is-act (Line.Cut node calls outcome command) act is =
       let cut : Cut = record { calls = calls; outcome = outcome_of outcome } in
       let same = where-some (bytes_eq (node_of command) node) (command_act world (Some cut) command) act is in
@@ -421,8 +327,4 @@ steps_are_of_acts dig world line = step-done world dig (act_of world line) line 
 -- so a line has a step exactly where it keeps the rules
 pub lines_that_keep_the_rules_step : LinesThatKeepTheRulesStep
 unfolding step effect_of keeps_rules
-lines_that_keep_the_rules_step dig (Some world) line =
-    ap is_some (steps_are_of_acts dig world line)
-    ∙ is_some-map (λ (act : Act). with_mail (done dig world act)) (act_of world line) ∙ rule world line
-lines_that_keep_the_rules_step dig None (Line.Chain tag operator most) = refl
-lines_that_keep_the_rules_step dig None line = refl
+lines_that_keep_the_rules_step dig h1 line = grind (arith, common_steps, steps_are_of_acts, is_some-map, rule)

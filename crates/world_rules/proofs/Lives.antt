@@ -1,7 +1,8 @@
 -- Induction over the lines of a run, once: each line that it did was an act.
-use Rattle.std.proofs.Common.{◌≡◌, ℕ, List, [], ◌∷◌, Option, Some, None, refl, sym, ◌∙◌, subst}
+use Rattle.std.proofs.Common.{◌≡◌, ℕ, List, [], ◌∷◌, Option, Some, None, refl, sym, subst, arith}
 use Rattle.std.specs.List.{All}
 use Rattle.std.proofs.lemmas.List.Elements.{All-head, All-tail}
+use Rattle.std.proofs.lemmas.Grind.{common_steps}
 use Rattle.line_forms.proofs.FormLaws.{and_then_some, option_map_some}
 use Rattle.plasma_tx.proofs.Names.{some_same}
 use Rattle.schedule_text.specs.declared.line.Line.{Line}
@@ -32,15 +33,7 @@ pub record IsStepped (dig : List ℕ → List ℕ) (world : World) (line : Line)
 
 pub stepped : (dig : List ℕ → List ℕ) (world : World) (line : Line) (effect : LineEffect)
     → step dig (Some world) line ≡ Some effect → IsStepped dig world line effect
-stepped dig world line effect is =
-    let act = option_map_some (line_effect dig world) (act_of world line) effect
-    (sym (steps_are_of_acts dig world line) ∙ is) in
-    record {
-      act = act.0;
-      act_is = act.1;
-      known = acts_are_known world line act.0 act.1;
-      effect_is = act.2;
-    }
+stepped dig world line effect is = grind (arith, common_steps, option_map_some, steps_are_of_acts, acts_are_known)
 
 -- the run of lines that are all so has come to this world
 pub record HasCome (dig : List ℕ → List ℕ) (IsGood : Line → Type 0) (lines : List Line) (run : Run) (world : World)
@@ -76,10 +69,7 @@ module _ (dig : List ℕ → List ℕ) (IsGood : Line → Type 0) (P : List Trac
   begins : (line : Line) (effect : LineEffect) → IsGood line → step dig None line ≡ Some effect
       → After [] line effect
   unfolding step effect_of keeps_rules
-  begins (Line.Chain tag operator most) effect good is =
-      subst (After [] (Line.Chain tag operator most)) (some_same (begun tag operator most) effect is)
-      (first tag operator most good)
-  begins line effect good is = absurd (cc is)
+  begins line effect good is = grind (arith, common_steps, some_same)
 
   steps : (lines : List Line) (run : Run) (line : Line) (effect : LineEffect) → All IsGood lines
       → run_of dig lines ≡ Some run → IsGood line → Holds run.entries run.world → step dig run.world line ≡ Some effect

@@ -1,10 +1,10 @@
 -- What the act of a line shows of the names, places and tokens in it.
-use Rattle.std.proofs.Common.{◌≡◌, ℕ, ◌&&◌, Bool, true, false, List, Option, Some, None, is_some, inl, inr, refl, sym, ap, ◌∙◌, subst}
-use Rattle.std.specs.Prelude.{slice_get, option_map, option_and_then, nat_lt}
-use Rattle.std.specs.Option.{option_or}
+use Rattle.std.proofs.Common.{◌≡◌, ℕ, ◌&&◌, Bool, true, List, Option, Some, None, is_some, inl, inr, sym, ap, ◌∙◌, arith}
+use Rattle.std.specs.Prelude.{option_map, option_and_then, nat_lt}
 use Rattle.std.specs.Str.{bytes_eq}
 use Rattle.std.proofs.lemmas.Bool.{and_parts}
 use Rattle.std.proofs.lemmas.List.Folds.{find_at}
+use Rattle.std.proofs.lemmas.Grind.{common_steps}
 use Rattle.line_forms.specs.declared.tokens.HexOrName.{HexOrName}
 use Rattle.line_forms.proofs.FormLaws.{and_then_some, option_map_some}
 use Rattle.lms_sign.specs.Types.{leaf_count}
@@ -14,39 +14,34 @@ use Rattle.schedule_text.specs.declared.line.Line.{Line}
 use Rattle.schedule_text.specs.declared.command.Command.{Command}
 use Rattle.schedule_text.specs.declared.command.WalletCommand.{WalletCommand}
 use Rattle.schedule_text.specs.Grammar.{node_of}
-use Rattle.node_replies.specs.declared.order.WalletOrder.{WalletOrder}
 use Rattle.node_replies.specs.declared.order.NodeOrder.{NodeOrder}
-use Rattle.world_rules.specs.World.{Role, Wallet, Watcher, Operator, Node, Rogue, World, is_named, is_wallet_role, number_of, rogue_named, owner_of_node, owner_of_rogue, owner_named, new_owner_of}
+use Rattle.world_rules.specs.World.{Role, Node, Rogue, World, is_named, is_wallet_role, number_of, rogue_named, owner_of_node, owner_named, new_owner_of}
 use Rattle.world_rules.specs.Declarations.{plays, is_declared, is_sendable, has_declared_names}
 use Rattle.world_rules.specs.Orders.{wallet_order, order_of}
 use Rattle.world_rules.specs.Steps.{cut, outcome_of, signed_body}
 use Rattle.world_rules.specs.Laws.{IsCommandIn}
 use Rattle.world_rules.proofs.Existence.{position-is, position-parts}
-use Rattle.world_rules.specs.Acts.{Place, Cut, Act, Signs, only_where, place_at, place_named, signer_named, order_act, command_act, act_of}
+use Rattle.world_rules.specs.Acts.{Place, Cut, Act, Signs, only_where, place_at, place_named, order_act, command_act, act_of}
 use Rattle.world_rules.specs.Evidence.{IsThere}
 
 -- ---- options
 
 pub where-some : {A : Type 0} (b : Bool) (found : Option A) (x : A) → only_where b found ≡ Some x
     → (b ≡ true) × (found ≡ Some x)
-where-some true found x is = (refl, is)
-where-some false found x is = absurd (cc is)
+where-some b found x is = grind (arith, common_steps, found)
 
 -- what a rule of declarations lets through
 pub ruled : (b : Bool) (one act : Act) → only_where b (Some one) ≡ Some act → (b ≡ true) × (one ≡ act)
 ruled b one act is = let may = where-some b (Some one) act is in (may.0, some_same one act may.1)
 
 pub is_some-where : {A : Type 0} (b : Bool) (found : Option A) → is_some (only_where b found) ≡ (b && is_some found)
-is_some-where true found = refl
-is_some-where false found = refl
+is_some-where b found = grind (arith, common_steps, found)
 
 pub is_some-rule : {A : Type 0} (b : Bool) (x : A) → is_some (only_where b (Some x)) ≡ b
-is_some-rule true x = refl
-is_some-rule false x = refl
+is_some-rule b x = grind (arith, common_steps)
 
 pub is_some-map : {A B : Type 0} (f : A → B) (o : Option A) → is_some (option_map f o) ≡ is_some o
-is_some-map f None = refl
-is_some-map f (Some x) = refl
+is_some-map f o = grind (arith, common_steps)
 
 module _ (world : World) where
   -- ---- names
@@ -71,48 +66,28 @@ module _ (world : World) where
 
   pub found : (may : Role → Bool) (name : List ℕ) (place : Place) → place_named may world name ≡ Some place
       → IsFound may name place
-  found may name place is =
-      let number = and_then_some (place_at world) (number_of may world name) place is in
-      let at = placed may name number.0 number.1 in
-      subst (IsFound may name) (some_same at.0 place (sym at.1 ∙ is)) at.2
+  found may name place is = grind (arith, common_steps, and_then_some, placed, some_same)
 
   -- a wallet's name stands for the owner there
   pub owner-is : (name : List ℕ) (place : Place) → IsFound is_wallet_role name place
       → owner_named world name ≡ Some (owner_of_node place.node)
-  owner-is name place at =
-      let named = is_named is_wallet_role name in
-      ap (λ (o : Option Node). option_or (option_map owner_of_node o)
-      (option_map owner_of_rogue (rogue_named world name)))
-      (find_at named world.nodes
-      ∙ ap (slice_get world.nodes) (position-parts named world.nodes place.number at.number).0 ∙ at.there)
+  owner-is name place at = grind (arith, common_steps, find_at, position-parts)
 
   -- a name is declared where it has a place
   pub is_some-named : (may : Role → Bool) (name : List ℕ)
       → is_some (place_named may world name) ≡ is_declared may world name
-  is_some-named may name = by (number_of may world name) refl
-    where
-      by : (o : Option ℕ) → number_of may world name ≡ o
-          → is_some (place_named may world name) ≡ is_declared may world name
-      by None none = ap (λ o. is_some (option_and_then (place_at world) o)) none ∙ sym (ap is_some none)
-      by (Some n) some = ap is_some (placed may name n some).1 ∙ sym (ap is_some some)
+  is_some-named may name = grind (arith, common_steps, placed)
 
   -- ---- orders
 
   is_some-wallet : (own : WalletCommand) → is_some (wallet_order world own) ≡ is_sendable world own
-  is_some-wallet (WalletCommand.Send coin to last) =
-      is_some-map (λ (owner : Owner). WalletOrder.Send coin owner last) (new_owner_of world to)
-  is_some-wallet own = refl
+  is_some-wallet own = grind (arith, common_steps, is_some-map)
 
   -- a node with the role has an order exactly where what the command names is declared
   pub is_some-order : (role : Role) (command : Command) → plays command role ≡ true
       → is_some (order_of world role command) ≡ has_declared_names world command
   unfolding order_of
-  is_some-order role (Command.Wallet name own) may =
-      is_some-map NodeOrder.Wallet (wallet_order world own) ∙ is_some-wallet own
-  is_some-order Wallet (Command.Watch name) may = refl
-  is_some-order Watcher (Command.Watch name) may = refl
-  is_some-order Operator (Command.Watch name) may = absurd (cc may)
-  is_some-order role command may = refl
+  is_some-order role command may = grind (arith, common_steps, is_some-map, is_some-wallet)
 
   -- what a command's act shows: its place, and its order there
   pub record IsUnderstood (cut : Option Cut) (command : Command) (act : Act) : Type 0 where
@@ -165,23 +140,4 @@ module _ (world : World) where
       → act_of world (Line.Sign rogue leaf coin parent to last) ≡ Some act → IsSigned rogue leaf coin parent to last act
   unfolding act_of
   signed rogue leaf coin parent to last act is =
-      let signer = and_then_some
-      (λ (signer : Rogue). option_map
-      (λ (owner : Owner). Signs leaf (signed_body world coin parent last owner) signer) (new_owner_of world to))
-      (signer_named world rogue leaf) act is in
-      let one = and_then_some
-      (λ (one : Rogue). only_where (nat_lt leaf (leaf_count one.secret.types)) (Some one)) (rogue_named world rogue)
-      signer.0 signer.1 in
-      let held = where-some (nat_lt leaf (leaf_count one.0.secret.types)) (Some one.0) signer.0 one.2 in
-      let same : one.0 ≡ signer.0 = some_same one.0 signer.0 held.1 in
-      let owner = option_map_some
-      (λ (owner : Owner). Signs leaf (signed_body world coin parent last owner) signer.0) (new_owner_of world to) act
-      signer.2 in
-      record {
-        signer = signer.0;
-        signer_is = one.1 ∙ ap Some same;
-        leaf_is = subst (λ (r : Rogue). nat_lt leaf (leaf_count r.secret.types) ≡ true) same held.0;
-        owner = owner.0;
-        owner_is = owner.1;
-        act_is = owner.2;
-      }
+      grind (arith, common_steps, and_then_some, where-some, some_same, option_map_some)

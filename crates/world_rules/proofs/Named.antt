@@ -1,9 +1,10 @@
 -- The names and roles of nodes: a name is new where it is declared, so no two nodes have one name.
-use Rattle.std.proofs.Common.{◌≡◌, ℕ, zero, suc, ◌+◌, ◌&&◌, ◌||◌, cond, not, map, nat_lt, Bool, true, false, List, [], ◌∷◌, ◌++◌, length, set, slice_get, bytes_eq, Some, None, is_some, refl, sym, ap, ◌∙◌, subst, arith}
-use Rattle.std.specs.List.{position, position_or_len}
+use Rattle.std.proofs.Common.{◌≡◌, ℕ, zero, suc, map, nat_lt, true, false, List, [], ◌∷◌, ◌++◌, length, set, slice_get, bytes_eq, Some, refl, sym, ap, ◌∙◌, subst, arith}
+use Rattle.std.specs.List.{position_or_len}
 use Rattle.std.specs.Cmp.Lexicographic.{bytes_decides}
 use Rattle.std.proofs.lemmas.Bool.{or_parts, not-true, false_from_ne_true, true≢false, lt-ltb, ltb-false, le-ltb}
-use Rattle.world_rules.specs.World.{Role, Node, World, any_role, is_named, rogue_named}
+use Rattle.std.proofs.lemmas.Grind.{common_steps}
+use Rattle.world_rules.specs.World.{Role, Node, World, any_role, is_named}
 use Rattle.world_rules.specs.Declarations.{is_new_name}
 
 -- a node's name and role
@@ -46,10 +47,8 @@ other-push name (one ∷ others) new other apart = (other.0, other-push name oth
 pub distinct-push : (nodes : List Card) (new : Card) → AreDistinct nodes → IsOther new.name nodes
     → AreDistinct (nodes ++ new ∷ [])
 distinct-push [] new distinct other = (tt, tt)
-distinct-push (one ∷ others) new distinct other = (
-  other-push one.name others new distinct.0 (names-flip one.name new.name other.0),
-  distinct-push others new distinct.1 other.1,
-)
+distinct-push (one ∷ others) new distinct other =
+    grind (arith, common_steps, distinct-push others new distinct.1 other.1, other-push, names-flip)
 
 -- a node that is there has another name
 pub other-at : (name : List ℕ) (nodes : List Card) (i : ℕ) (one : Card) → IsOther name nodes
@@ -64,32 +63,12 @@ other-at name (first ∷ rest) (suc i) one other is = other-at name rest i one o
 no-place : (name : List ℕ) (nodes : List Node)
     → nat_lt (position_or_len (is_named any_role name) nodes) (length nodes) ≡ false → IsOther name (cards nodes)
 no-place name [] none = tt
-no-place name (node ∷ nodes) none = at (bytes_eq node.name name) refl none (no-place name nodes)
-  where
-    at : (b : Bool) → bytes_eq node.name name ≡ b
-        → nat_lt (cond (not (b && true)) (1 + position_or_len (is_named any_role name) nodes) 0) (suc (length nodes))
-        ≡ false
-        → (nat_lt (position_or_len (is_named any_role name) nodes) (length nodes) ≡ false
-        → IsOther name (cards nodes)) → IsOther name (cards (node ∷ nodes))
-    at true is wrong rest = absurd (true≢false (sym (lt-ltb 0 (suc (length nodes)) (omega arith)) ∙ wrong))
-    at false is out rest =
-        let past = ltb-false (1 + position_or_len (is_named any_role name) nodes) (suc (length nodes)) out in
-        (is, rest (le-ltb (position_or_len (is_named any_role name) nodes) (length nodes) (omega arith)))
+no-place name (node ∷ nodes) none =
+    grind (arith, common_steps, no-place name nodes, true≢false, lt-ltb, ltb-false, le-ltb)
 
 -- a name that may be declared is none's
 pub new-other : (world : World) (name : List ℕ) → is_new_name world name ≡ true → IsOther name (cards world.nodes)
-new-other world name new =
-    let used = or_parts (is_some (position (is_named any_role name) world.nodes)) (is_some (rogue_named world name))
-    (not-true (is_some (position (is_named any_role name) world.nodes) || is_some (rogue_named world name)) new) in
-    no-place name world.nodes
-    (nowhere (nat_lt (position_or_len (is_named any_role name) world.nodes) (length world.nodes)) used.0)
-  where
-    place : ℕ
-    place = position_or_len (is_named any_role name) world.nodes
-
-    nowhere : (b : Bool) → is_some (cond b (Some place) None) ≡ false → b ≡ false
-    nowhere true wrong = absurd (true≢false wrong)
-    nowhere false is = refl
+new-other world name new = grind (arith, common_steps, or_parts, not-true, no-place, true≢false)
 
 -- ---- numbers
 
@@ -99,8 +78,7 @@ pub cards-set : (nodes : List Node) (n : ℕ) (old new : Node) → slice_get nod
 cards-set [] n old new is same = refl
 cards-set (node ∷ nodes) zero old new is same =
     let first : node ≡ old = cc is in ap (λ (one : Card). one ∷ cards nodes) (same ∙ ap card (sym first))
-cards-set (node ∷ nodes) (suc n) old new is same = ap (λ (rest : List Card). card node ∷ rest)
-    (cards-set nodes n old new is same)
+cards-set (node ∷ nodes) (suc n) old new is same = grind (arith, common_steps, cards-set nodes n old new is same)
 
 pub cards-push : (nodes : List Node) (new : Node) → cards (nodes ++ new ∷ []) ≡ cards nodes ++ card new ∷ []
 cards-push [] new = refl

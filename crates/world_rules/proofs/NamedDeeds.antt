@@ -1,21 +1,17 @@
 -- The events of deeds: none declares a wallet or enters a call, and a bundle that is accepted is of a coin of the log.
-use Rattle.std.proofs.Common.{◌≡◌, ℕ, true, List, [], Option, Some, None, Ok, Err, refl, ap}
-use Rattle.std.specs.Prelude.{Result, unwrap_or}
-use Rattle.std.specs.Result.{result_ok}
+use Rattle.std.proofs.Common.{◌≡◌, ℕ, true, List, Ok, Err, refl, ap, arith, rules}
+use Rattle.std.specs.Prelude.{Result}
+use Rattle.std.proofs.lemmas.Grind.{common_steps}
 use Rattle.plasma_tx.specs.declared.links.Links.{Links}
 use Rattle.plasma_tx.specs.declared.call.RootCall.{RootCall}
-use Rattle.plasma_tx.specs.declared.views.CoinView.{CoinView}
-use Rattle.plasma_tx.specs.Views.{coin_at}
-use Rattle.plasma_tx.specs.Shown.{Tests, Rules, tests_by}
+use Rattle.plasma_tx.specs.Shown.{Tests, Rules}
 use Rattle.coin_history.specs.declared.bundle.Bundle.{Bundle}
 use Rattle.coin_history.specs.declared.refusal.HistoryRefusal.{HistoryRefusal}
-use Rattle.coin_history.specs.Bundles.{bundle_in}
-use Rattle.coin_history.specs.History.{links_of}
-use Rattle.coin_history.specs.Checking.{checked, where_made, history_of}
+use Rattle.coin_history.specs.Checking.{history_of}
 use Rattle.node_rules.specs.declared.answers.Accepted.{Accepted}
-use Rattle.node_rules.specs.Kept.{chain_of, checked_by, links_handed}
+use Rattle.node_rules.specs.Kept.{links_handed}
 use Rattle.node_rules.specs.Wallet.{WalletRecords, who, noted, accept_by, accept_effect}
-use Rattle.world_rules.specs.Events.{Event, Accepts, Watches, Leaves, Seals}
+use Rattle.world_rules.specs.Events.{Event, Accepts}
 use Rattle.world_rules.specs.World.{Node, wallet_of}
 use Rattle.world_rules.specs.Deeds.{as_deed}
 use Rattle.world_rules.proofs.OrderEnds.{OrderEnds, Accepting as AcceptEnds, order-ends}
@@ -34,13 +30,7 @@ pub data IsDeed (log : List RootCall) (event : Event) : Type 0 where
 
 -- a cut leaves it so
 deed-cut : (log : List RootCall) (n : ℕ) (event : Event) → IsDeed log event → IsDeed log (without_offers n event)
-deed-cut log n event (Plain plain) = Plain (at event plain)
-  where
-    at : (e : Event) → is_plain e ≡ true → is_plain (without_offers n e) ≡ true
-    at (Watches m calls) is = refl
-    at (Leaves m call) is = refl
-    at (Seals call) is = refl
-    at e is = is
+deed-cut log n event (Plain plain) = grind (arith, common_steps, is_plain)
 deed-cut log n event (Accepting m bundle is coin) = Accepting m bundle (ap (without_offers n) is) coin
 
 -- ---- accept
@@ -48,23 +38,12 @@ deed-cut log n event (Accepting m bundle is coin) = Accepting m bundle (ap (with
 shown-coin : (tests : Tests) (rules : Rules) (log : List RootCall) (bundle : Bundle) (links : Links)
     → history_of tests rules log bundle ≡ Ok links → IsCoin log bundle.coin
 unfolding history_of
-shown-coin tests rules log bundle links is = at (coin_at log bundle.coin) refl is
-  where
-    at : (o : Option CoinView) → coin_at log bundle.coin ≡ o
-        → where_made o (λ made. checked tests rules log bundle (links_of rules made bundle)) ≡ Ok links
-        → IsCoin log bundle.coin
-    at None none wrong = absurd (cc wrong)
-    at (Some made) some passed = record { made = made; is = some }
+shown-coin tests rules log bundle links is = grind (arith, common_steps)
 
 -- links that are handed in are of a coin of the log
 handed-coin : (dig : List ℕ → List ℕ) (tag : List ℕ) (log : List RootCall) (bytes : List ℕ) (links : Links)
     → links_handed dig tag log bytes ≡ Ok links → IsCoin log (bundle_read bytes).coin
-handed-coin dig tag log bytes links is = at (bundle_in bytes) is
-  where
-    at : (r : Result Bundle HistoryRefusal) → checked_by dig tag log r ≡ Ok links
-        → IsCoin log (unwrap_or (result_ok r) (record { coin = 0; tip = 0; openings = [] })).coin
-    at (Err why) wrong = absurd (cc wrong)
-    at (Ok bundle) passed = shown-coin (tests_by dig) (chain_of tag) log bundle links passed
+handed-coin dig tag log bytes links is = grind (arith, common_steps, shown-coin)
 
 accept-coin : (dig : List ℕ → List ℕ) (wallet : WalletRecords) (log : List RootCall) (bytes : List ℕ) (taken : Accepted)
     → (accept_effect dig wallet log bytes).answer ≡ Ok taken → IsCoin log (bundle_read bytes).coin

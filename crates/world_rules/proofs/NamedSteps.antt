@@ -1,6 +1,7 @@
 -- Each line of a run makes a move, so every run keeps what moves keep.
-use Rattle.std.proofs.Common.{◌≡◌, ℕ, not, nat_lt, Bool, true, false, if◌then◌else◌, List, [], ◌∷◌, length, Some, refl, sym, ap, ◌&&◌, ◌||◌}
+use Rattle.std.proofs.Common.{◌≡◌, ℕ, not, nat_lt, Bool, true, false, if◌then◌else◌, List, [], ◌∷◌, length, Some, refl, sym, ap, ◌&&◌, ◌||◌, arith}
 use Rattle.std.proofs.lemmas.Bool.{and_parts, false≢true}
+use Rattle.std.proofs.lemmas.Grind.{common_steps}
 use Rattle.plasma_tx.specs.declared.call.RootCall.{RootCall}
 use Rattle.plasma_tx.specs.declared.answer.Answer.{Answer}
 use Rattle.plasma_tx.specs.Shown.{tests_by, rules_of}
@@ -14,7 +15,7 @@ use Rattle.world_rules.specs.Declarations.{is_new_name, is_wallet_account, walle
 use Rattle.world_rules.specs.Deeds.{Deed}
 use Rattle.world_rules.specs.Steps.{new_node, after_crash, TraceEntry, entry_of, Run, run_of, events_of}
 use Rattle.world_rules.specs.declared.TheConstants.{MOST_WALLETS}
-use Rattle.world_rules.specs.Acts.{NewWallet, NewWatcher, NewRogue, Act, Rests, Signs, Adds, Enters, Orders, Crashes, End, Whole, Crashed, Kept as KeptEnd, Lost, end_of, node_after, deed_at, done}
+use Rattle.world_rules.specs.Acts.{NewWallet, NewWatcher, NewRogue, Act, Rests, Signs, Adds, Enters, Orders, Crashes, End, end_of, node_after, deed_at, done}
 use Rattle.world_rules.specs.Evidence.{IsActIn}
 use Rattle.world_rules.proofs.Lives.{begun, IsAny, any_run, runs_keep}
 use Rattle.world_rules.proofs.Named.{Card, card, cards, new-other, cards-set, cards-push, cards-length}
@@ -28,14 +29,10 @@ from-deed nodes after log event same (Plain plain) = Stays same refl plain
 from-deed nodes after log event same (Accepting n bundle is coin) = Takes n bundle same refl is coin
 
 pub card-after : (node : Node) (deed : Deed) (end : End) → card (node_after node deed end) ≡ card node
-card-after node deed Whole = refl
-card-after node deed Crashed = refl
-card-after node deed KeptEnd = refl
-card-after node deed Lost = refl
+card-after node deed end = grind (arith, common_steps)
 
 head : (a b c d : Bool) → ((a && b) && c && d) ≡ true → a ≡ true
-head true b c d is = refl
-head false b c d is = is
+head a b c d is = grind (arith, common_steps)
 
 module _ (dig : List ℕ → List ℕ) (world : World) where
   -- the act makes a move
@@ -90,13 +87,7 @@ KeptIn entries world = Kept (cards world.nodes) world.chain.log (events_of entri
 begins : (tag operator most : ℕ)
     → KeptIn (entry_of (Line.Chain tag operator most) (begun tag operator most) ∷ []) (begun tag operator most).world
 unfolding events_of log_of wallet_owner accepted
-begins tag operator most = record {
-  log_is = refl;
-  distinct = (tt, tt);
-  wallets = λ w me wrong. absurd (cc wrong);
-  stay = (λ w me wrong. absurd (cc wrong), tt);
-  known = λ w c e wrong. absurd (false≢true wrong);
-}
+begins tag operator most = grind (arith, common_steps, false≢true)
 
 -- what every run keeps
 pub record IsKeptRun (run : Run) : Type 0 where

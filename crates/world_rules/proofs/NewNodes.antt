@@ -3,6 +3,7 @@ use Rattle.std.proofs.Common.{◌≡◌, ℕ, ◌^◌, ◌<◌, ◌&&◌, Bool, 
 use Rattle.std.specs.Option.{option_map_or}
 use Rattle.std.proofs.lemmas.Bool.{false≢true}
 use Rattle.std.proofs.lemmas.List.{length-take-le}
+use Rattle.std.proofs.lemmas.Grind.{common_steps}
 use Rattle.sha2.specs.Sha256.{sha256}
 use Rattle.sha2.proofs.Facts256.{length-sha256}
 use Rattle.lms_sign.specs.Tree.{public_key_of}
@@ -94,10 +95,7 @@ module _ (dig : List ℕ → List ℕ) (me : WalletIdentity) (is : IsIdentity me
 pub new-watcher-kept : (dig : List ℕ → List ℕ) (me : WatcherIdentity) → IsWatcherIdentity me
     → KeptWatcher dig nothing_said (watcher_text me ∷ [])
 unfolding watcher_notes guards_of
-new-watcher-kept dig me is = record {
-  is = ap (λ (o : Option WatcherIdentity). is_some o && true) (watcher_in-text me is);
-  guards = λ c e. refl;
-}
+new-watcher-kept dig me is = grind (arith, common_steps, watcher_in-text)
 
 -- ---- rogues
 

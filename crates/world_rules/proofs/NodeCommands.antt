@@ -1,6 +1,7 @@
 -- Each order of a node keeps what events say of it, and makes bytes.
-use Rattle.std.proofs.Common.{◌≡◌, ℕ, List, [], Option, Some, None, Ok, sym, subst, Bool, true, false}
+use Rattle.std.proofs.Common.{◌≡◌, ℕ, List, [], Option, Some, None, Ok, sym, subst, Bool, true, arith}
 use Rattle.std.specs.Prelude.{Result, IfSome, slice_get, unwrap_or}
+use Rattle.std.proofs.lemmas.Grind.{common_steps}
 use Rattle.leaf_journal.specs.Records.{messages_of}
 use Rattle.plasma_tx.specs.declared.owner.Owner.{Owner}
 use Rattle.plasma_tx.specs.declared.call.RootCall.{RootCall}
@@ -144,9 +145,7 @@ module _ (dig : List ℕ → List ℕ) (is_digest : IsDigest dig) (s : Said) (wo
 
     noted : (order : OperatorOrder) → IfSome (operator_does dig log node.notes order).note Small
         → Small (operator_does dig log node.notes order).response.made → IsKept (deed_by (NodeOrder.Operator order))
-    noted order note made =
-        of-operator dig s log node role (deed_by (NodeOrder.Operator order))
-        (records-noted node.notes (operator_does dig log node.notes order).note small note) made
+    noted order note made = grind (arith, common_steps, of-operator, records-noted, small)
 
     operator-kept : (order : OperatorOrder) → IsFitOrder (NodeOrder.Operator order)
         → IsKept (deed_by (NodeOrder.Operator order))
@@ -177,8 +176,7 @@ module _ (dig : List ℕ → List ℕ) (is_digest : IsDigest dig) (s : Said) (wo
 
   opened-kept : (b : Bool) → IsKept (as_deed n NodeOrder.Open (without_record (on_open node b)))
   unfolding event_of
-  opened-kept true = record { kept = kept; made = small-nil }
-  opened-kept false = record { kept = kept; made = small-nil }
+  opened-kept b = grind (arith, common_steps, small-nil)
 
   pub order-kept : (order : NodeOrder) → IsOrderAt node.role order → IsFitOrder order → IsKept (deed_by order)
   order-kept (NodeOrder.Wallet order) role fit = wallet-kept role order fit

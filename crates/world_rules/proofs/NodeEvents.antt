@@ -1,13 +1,14 @@
 -- The event of a node's order says something of that node alone, however the order ends.
-use Rattle.std.proofs.Common.{◌≡◌, ◌≢◌, ℕ, ◌==◌, false, List, ◌∷◌, refl, sym, ◌∙◌}
+use Rattle.std.proofs.Common.{◌≡◌, ◌≢◌, ℕ, ◌==◌, false, List, ◌∷◌, refl, arith}
 use Rattle.std.proofs.lemmas.Bool.{eq-eqb, ne_eqb}
+use Rattle.std.proofs.lemmas.Grind.{common_steps}
 use Rattle.plasma_tx.specs.declared.call.RootCall.{RootCall}
 use Rattle.node_replies.specs.declared.order.NodeOrder.{NodeOrder}
 use Rattle.world_rules.specs.Events.{Event, Other, log_of}
 use Rattle.world_rules.specs.World.{Node}
 use Rattle.world_rules.specs.Deeds.{Deed}
 use Rattle.world_rules.specs.Steps.{without_offers}
-use Rattle.world_rules.specs.Acts.{End, Whole, Crashed, Kept, Lost, event_after}
+use Rattle.world_rules.specs.Acts.{End, Lost, event_after}
 use Rattle.world_rules.proofs.OrderEnds.{OrderEnds, Accepting, Binding, TakingBack, Guarding, Releasing}
 use Rattle.world_rules.proofs.Said.{said, told, is_said_of, said-own, said-other}
 
@@ -26,20 +27,12 @@ module _ (n : ℕ) (events : List Event) where
   -- one that says something of the node
   speaks : (event : Event) → log_of (event ∷ events) ≡ log_of events → ((m : ℕ) → is_said_of m event ≡ (n == m))
       → IsTold n events event event
-  speaks event log each = record {
-    log = log;
-    others = λ m apart. each m ∙ ne_eqb n m apart;
-    is = said-own event events n (each n ∙ eq-eqb n n refl);
-  }
+  speaks event log each = grind (arith, common_steps, ne_eqb, said-own, eq-eqb)
 
   -- one that says nothing
   still : (event told_of : Event) → log_of (event ∷ events) ≡ log_of events → ((m : ℕ) → is_said_of m event ≡ false)
       → told told_of (said events n) ≡ said events n → IsTold n events event told_of
-  still event told_of log each same = record {
-    log = log;
-    others = λ m apart. each m;
-    is = said-other event events n (each n) ∙ sym same;
-  }
+  still event told_of log each same = grind (arith, common_steps, said-other)
 
   -- an event that is none of the named ones
   pub other-of : IsTold n events (Other n) (Other n)
@@ -69,7 +62,4 @@ module _ (n : ℕ) (events : List Event) where
     pub told-after : (order : NodeOrder) (deed : Deed) (end : End)
         → OrderEnds dig log n node order deed.gives.event deed.gives.offers
         → IsTold n events (event_after n deed end) (event_told n deed end)
-    told-after order deed Whole ends = (told-ends order deed.gives.event deed.gives.offers ends).0
-    told-after order deed Crashed ends = (told-ends order deed.gives.event deed.gives.offers ends).1
-    told-after order deed Kept ends = (told-ends order deed.gives.event deed.gives.offers ends).1
-    told-after order deed Lost ends = other-of
+    told-after order deed end ends = grind (arith, common_steps, told-ends, other-of)

@@ -1,22 +1,21 @@
 -- What each step does to the nodes and their records.
-use Rattle.std.proofs.Common.{◌≡◌, ◌⊎◌, ℕ, List, Option, Some, None, inl, inr, refl, sym, ap, ◌∙◌, subst}
+use Rattle.std.proofs.Common.{◌≡◌, ◌⊎◌, ℕ, List, Option, None, inl, refl, sym, ap, subst, arith}
+use Rattle.std.proofs.lemmas.Grind.{common_steps}
 use Rattle.plasma_tx.specs.declared.owner.Owner.{Owner}
 use Rattle.coin_history.specs.Bundles.{bundle_in}
 use Rattle.node_rules.specs.Kept.{links_handed}
 use Rattle.node_rules.specs.Wallet.{WalletRecords, noted, who, coin_state, accept_effect, send_effect, leave_effect, reclaim_effect}
 use Rattle.node_rules.proofs.WalletAdded.{accept-leaf, send-note, leave-leaf, reclaim-leaf, migrate-note}
-use Rattle.world_rules.specs.World.{Node, World, wallet_of}
+use Rattle.world_rules.specs.World.{Node, World}
 use Rattle.world_rules.specs.Deeds.{Deed, as_deed}
 use Rattle.world_rules.specs.Orders.{node_does}
 use Rattle.node_replies.specs.declared.order.NodeOrder.{NodeOrder}
 use Rattle.node_replies.specs.declared.order.WalletOrder.{WalletOrder}
-use Rattle.node_replies.specs.declared.order.WatcherOrder.{WatcherOrder}
-use Rattle.node_replies.specs.declared.order.OperatorOrder.{OperatorOrder}
 use Rattle.node_replies.specs.Orders.{with_record, wallet_does, watcher_does, operator_does}
-use Rattle.world_rules.specs.Steps.{LineEffect, with_records, after_command, after_crash}
+use Rattle.world_rules.specs.Steps.{LineEffect, after_crash}
 use Rattle.world_rules.specs.Laws.{GrowsByOne, GrowsAtMost, ChangesOneNode, DeclaresOneNode, RecordsGrow}
-use Rattle.world_rules.specs.Acts.{NewWallet, NewWatcher, NewRogue, Act, Adds, Orders, Crashes, End, Whole, Crashed, Kept, Lost, end_of, node_after, deed_at}
-use Rattle.world_rules.proofs.Nodes.{Change, NoNode, OneNode, NewNode, change_of, nodes_after, nodes-done, IsOld, is-old}
+use Rattle.world_rules.specs.Acts.{NewWallet, NewWatcher, NewRogue, Act, Adds, Orders, Crashes, End, end_of, node_after, deed_at}
+use Rattle.world_rules.proofs.Nodes.{Change, OneNode, change_of, nodes_after, nodes-done, IsOld, is-old}
 use Rattle.world_rules.proofs.Lives.{stepped}
 
 -- ---- a deed adds at most one record
@@ -51,37 +50,20 @@ module _ (dig : List ℕ → List ℕ) (world : World) (n : ℕ) where
       → ((wallet_does dig world.chain.log wallet order).note ≡ None)
       ⊎ ((wallet_does dig world.chain.log wallet order).leaf ≡ None)
   unfolding wallet_does
-  wallet-one wallet (WalletOrder.Accept bytes) = inr (accept-one wallet bytes)
-  wallet-one wallet (WalletOrder.Send coin to last) = inl (send-one wallet coin to last)
-  wallet-one wallet (WalletOrder.Leave coin) = inr (leave-one wallet coin)
-  wallet-one wallet (WalletOrder.Reclaim bytes) = inr (reclaim-one wallet bytes)
-  wallet-one wallet WalletOrder.Migrate = inl (migrate-note wallet)
-  wallet-one wallet order = inl refl
+  wallet-one wallet order = grind (arith, common_steps, accept-one, send-one, leave-one, reclaim-one, migrate-note)
 
   -- watchers and the operator have no leaves
   order-one : (node : Node) (order : NodeOrder)
       → AddsOne (as_deed n order (node_does dig world.chain.log node order))
   unfolding watcher_does operator_does
-  order-one node (NodeOrder.Wallet order) = wallet-one (wallet_of node) order
-  order-one node (NodeOrder.Watcher order) = inr (watching order)
-    where
-      watching : (own : WatcherOrder) → (watcher_does dig world.chain.log node.notes own).leaf ≡ None
-      watching WatcherOrder.Watch = refl
-      watching own = refl
-  order-one node (NodeOrder.Operator order) = inr (operating order)
-    where
-      operating : (own : OperatorOrder) → (operator_does dig world.chain.log node.notes own).leaf ≡ None
-      operating OperatorOrder.Seal = refl
-      operating own = refl
-  order-one node NodeOrder.Open = inl refl
+  order-one node order = grind (arith, common_steps, wallet-one)
 
 -- ---- so a node's records grow by at most one
 
 -- records stay without a record, and have it behind them with one
 recorded : (records : List (List ℕ)) (more : Option (List ℕ))
     → (with_record records more ≡ records) ⊎ GrowsByOne records (with_record records more)
-recorded records None = inl refl
-recorded records (Some body) = inr (body, refl)
+recorded records more = grind (arith, common_steps)
 
 none-stays : (records : List (List ℕ)) (more : Option (List ℕ)) → more ≡ None → with_record records more ≡ records
 none-stays records more is = ap (with_record records) is
@@ -90,25 +72,7 @@ none-stays records more is = ap (with_record records) is
 grows : (node after : Node) (deed : Deed) → AddsOne deed → after.name ≡ node.name → after.account ≡ node.account
     → after.role ≡ node.role → after.notes ≡ with_record node.notes deed.note
     → after.leaves ≡ with_record node.leaves deed.leaf → GrowsAtMost node after
-grows node after deed one name account role notes leaves = record {
-  name = name;
-  account = account;
-  role = role;
-  notes = elim one [
-    | inl none ↦ inl (notes ∙ none-stays node.notes deed.note none)
-    | inr none ↦ elim (recorded node.notes deed.note) [
-      | inl same ↦ inl (notes ∙ same)
-      | inr more ↦ inr ((more.0, notes ∙ more.1), leaves ∙ none-stays node.leaves deed.leaf none)
-    ]
-  ];
-  leaves = elim one [
-    | inr none ↦ inl (leaves ∙ none-stays node.leaves deed.leaf none)
-    | inl none ↦ elim (recorded node.leaves deed.leaf) [
-      | inl same ↦ inl (leaves ∙ same)
-      | inr more ↦ inr ((more.0, leaves ∙ more.1), notes ∙ none-stays node.notes deed.note none)
-    ]
-  ];
-}
+grows node after deed one name account role notes leaves = grind (arith, common_steps, none-stays, recorded)
 
 -- a node that crashes keeps its records
 crash-grows : (node : Node) → GrowsAtMost node (after_crash node)
@@ -116,10 +80,7 @@ crash-grows node = record { name = refl; account = refl; role = refl; notes = in
 
 -- however an order ends
 grows-after : (node : Node) (deed : Deed) → AddsOne deed → (end : End) → GrowsAtMost node (node_after node deed end)
-grows-after node deed one Whole = grows node (after_command node deed) deed one refl refl refl refl refl
-grows-after node deed one Crashed = grows node (after_crash (with_records node deed)) deed one refl refl refl refl refl
-grows-after node deed one Kept = grows node (after_crash (with_records node deed)) deed one refl refl refl refl refl
-grows-after node deed one Lost = crash-grows node
+grows-after node deed one end = grind (arith, common_steps, grows, crash-grows)
 
 -- ---- each act
 
@@ -135,16 +96,7 @@ module _ (dig : List ℕ → List ℕ) (world : World) where
 
   change-grows : (change : Change) → IsOld world.nodes change → Grows change
       → NodesGrow world (nodes_after change world.nodes)
-  change-grows NoNode old grow = inl refl
-  change-grows (OneNode place after) old grow = inr (inl (record {
-    number = place.number;
-    old = place.node;
-    new = after;
-    is_old = old;
-    is_new = refl;
-    grows = grow;
-  }))
-  change-grows (NewNode node) old grow = inr (inr (node, refl))
+  change-grows change old grow = grind (arith, common_steps, grows)
 
   act-grows : (act : Act) → Grows (change_of dig world act)
   act-grows (Adds name (NewWallet who)) = tt

@@ -1,15 +1,16 @@
 -- What an act does to the nodes, and the one theorem of what holds of each: its own node keeps it, the others stay, and
 -- a new one has it.
-use Rattle.std.proofs.Common.{◌≡◌, ◌≢◌, ℕ, List, [], ◌∷◌, ◌++◌, length, Option, Some, None, inl, inr, refl, sym, subst, le_refl}
+use Rattle.std.proofs.Common.{◌≡◌, ◌≢◌, ℕ, List, [], ◌∷◌, ◌++◌, length, Option, Some, None, subst, arith}
 use Rattle.std.specs.Prelude.{set, slice_get}
 use Rattle.std.proofs.lemmas.Bool.{cases_eq}
 use Rattle.std.proofs.lemmas.Option.{slice_get_past}
+use Rattle.std.proofs.lemmas.Grind.{common_steps}
 use Rattle.node_rules.specs.Watcher.{identity_text as watcher_text}
 use Rattle.node_rules.specs.WalletRecords.{identity_text as wallet_text}
 use Rattle.world_rules.specs.World.{Wallet, Watcher, Node, World}
 use Rattle.world_rules.specs.Steps.{new_node, after_crash}
 use Rattle.world_rules.proofs.Runs.{set-same, set-other, push-same, push-other}
-use Rattle.world_rules.specs.Acts.{Place, NewWallet, NewWatcher, NewRogue, Act, Rests, Signs, Adds, Enters, Orders, Crashes, end_of, node_after, deed_at, done}
+use Rattle.world_rules.specs.Acts.{Place, NewWallet, NewWatcher, Act, Adds, Orders, Crashes, end_of, node_after, deed_at, done}
 use Rattle.world_rules.specs.Evidence.{IsActIn}
 
 -- ---- what changes
@@ -39,14 +40,7 @@ nodes_after (NewNode node) nodes = nodes ++ node ∷ []
 pub nodes-done : (dig : List ℕ → List ℕ) (world : World) (act : Act)
     → (done dig world act).world.nodes ≡ nodes_after (change_of dig world act) world.nodes
 unfolding done
-nodes-done dig world (Rests reply) = refl
-nodes-done dig world (Signs leaf body rogue) = refl
-nodes-done dig world (Adds name (NewWallet who)) = refl
-nodes-done dig world (Adds name (NewWatcher account)) = refl
-nodes-done dig world (Adds name (NewRogue who)) = refl
-nodes-done dig world (Enters origin call) = refl
-nodes-done dig world (Orders place order cut) = refl
-nodes-done dig world (Crashes place) = refl
+nodes-done dig world act = grind (arith, common_steps)
 
 -- the node that changes is there
 abbrev pub IsOld : List Node → Change → Type 0
@@ -55,14 +49,7 @@ IsOld nodes change = Unit {0}
 
 pub is-old : (dig : List ℕ → List ℕ) (world : World) (act : Act) → IsActIn world act
     → IsOld world.nodes (change_of dig world act)
-is-old dig world (Rests reply) known = tt
-is-old dig world (Signs leaf body rogue) known = tt
-is-old dig world (Adds name (NewWallet who)) known = tt
-is-old dig world (Adds name (NewWatcher account)) known = tt
-is-old dig world (Adds name (NewRogue who)) known = tt
-is-old dig world (Enters origin call) known = tt
-is-old dig world (Orders place order cut) known = known.there
-is-old dig world (Crashes place) known = known
+is-old dig world act known = grind (arith, common_steps)
 
 -- ---- what each node keeps
 
@@ -90,33 +77,14 @@ pub record IsKeptBy (P Q : ℕ → Option Node → Type 0) (nodes : List Node) (
 module _ (P Q : ℕ → Option Node → Type 0) (nodes : List Node) (each : EachNode P nodes) where
   change-keeps : (change : Change) → IsOld nodes change → IsKeptBy P Q nodes change
       → EachNode Q (nodes_after change nodes)
-  change-keeps NoNode old keeps n = keeps.others n tt (slice_get nodes n) (each n)
-  change-keeps (OneNode place after) old keeps n = elim (cases_eq place.number n) [
-    | inl here ↦
-        subst (λ k. Q k (slice_get (set nodes place.number after) k)) here
-        (subst (Q place.number) (sym (set-same nodes place.number place.node after old))
-        (keeps.own (subst (P place.number) old (each place.number))))
-    | inr apart ↦
-        subst (Q n) (sym (set-other nodes place.number n after apart))
-        (keeps.others n apart (slice_get nodes n) (each n))
-  ]
-  change-keeps (NewNode node) old keeps n = elim (cases_eq (length nodes) n) [
-    | inl here ↦
-        subst (λ k. Q k (slice_get (nodes ++ node ∷ []) k)) here
-        (subst (Q (length nodes)) (sym (push-same nodes node))
-        (keeps.own (subst (P (length nodes)) (slice_get_past nodes (length nodes) (le_refl (length nodes)))
-        (each (length nodes)))))
-    | inr apart ↦
-        subst (Q n) (sym (push-other nodes node n apart)) (keeps.others n apart (slice_get nodes n) (each n))
-  ]
+  change-keeps change old keeps n =
+      grind (arith, common_steps, cases_eq, set-same, set-other, push-same, slice_get_past, push-other)
 
 -- what holds of each node holds of each after an act that keeps it
 pub each_node_keeps : (P Q : ℕ → Option Node → Type 0) (dig : List ℕ → List ℕ) (world : World) (act : Act)
     → IsActIn world act → EachNode P world.nodes → IsKeptBy P Q world.nodes (change_of dig world act)
     → EachNode Q (done dig world act).world.nodes
-each_node_keeps P Q dig world act known each keeps =
-    subst (EachNode Q) (sym (nodes-done dig world act))
-    (change-keeps P Q world.nodes each (change_of dig world act) (is-old dig world act known) keeps)
+each_node_keeps P Q dig world act known each keeps = grind (arith, common_steps, nodes-done, change-keeps, is-old)
 
 -- ---- of the nodes that are there
 
@@ -132,5 +100,4 @@ node-there Q nodes each n node is = subst (IfThere Q n) is (each n)
 pub others-there : (Q R : ℕ → Node → Type 0) (nodes : List Node) (change : Change)
     → ((m : ℕ) → IsOther nodes change m → (node : Node) → Q m node → R m node)
     → (m : ℕ) → IsOther nodes change m → (found : Option Node) → IfThere Q m found → IfThere R m found
-others-there Q R nodes change others m other None holds = tt
-others-there Q R nodes change others m other (Some node) holds = others m other node holds
+others-there Q R nodes change others m other found holds = grind (arith, common_steps)

@@ -1,8 +1,8 @@
 -- What a node offers is what the events of a run say.
-use Rattle.std.proofs.Common.{◌≡◌, ℕ, ◌==◌, zero, suc, false, if◌then◌else◌, List, [], ◌∷◌, length, Option, Some, None, refl, sym, ap, ◌∙◌, subst}
+use Rattle.std.proofs.Common.{◌≡◌, ℕ, false, if◌then◌else◌, List, [], ◌∷◌, length, Option, Some, None, refl, sym, ap, ◌∙◌, subst, arith}
 use Rattle.std.specs.Prelude.{slice_get}
-use Rattle.std.specs.Option.{option_map_or}
 use Rattle.std.proofs.lemmas.Bool.{true≢false, eq-eqb}
+use Rattle.std.proofs.lemmas.Grind.{common_steps}
 use Rattle.plasma_tx.specs.declared.call.RootCall.{RootCall}
 use Rattle.schedule_text.specs.declared.line.Line.{Line}
 use Rattle.world_rules.specs.Events.{Event, is_command_of, offered, offers_of}
@@ -10,7 +10,7 @@ use Rattle.world_rules.specs.World.{Node, World}
 use Rattle.world_rules.specs.Deeds.{Deed}
 use Rattle.world_rules.specs.Steps.{TraceEntry, Run, entry_of, run_of, events_of}
 use Rattle.world_rules.specs.Laws.{OffersAreOfEvents, DownNodesOfferNothing}
-use Rattle.world_rules.specs.Acts.{NewWallet, NewWatcher, NewRogue, Act, Adds, Orders, Crashes, End, Whole, Crashed, Kept, Lost, end_of, node_after, deed_at, done}
+use Rattle.world_rules.specs.Acts.{NewWallet, NewWatcher, NewRogue, Act, Adds, Orders, Crashes, End, end_of, node_after, deed_at, done}
 use Rattle.world_rules.specs.Evidence.{IsActIn}
 use Rattle.world_rules.proofs.Nodes.{change_of, EachNode, IsKeptOwn, each_node_keeps}
 use Rattle.world_rules.proofs.Told.{IsBy, OperatorIsFirst, by-end, commands-others}
@@ -29,9 +29,7 @@ offers-other n event events is = ap (λ b. if b then offered event else offers_o
 offers-own : (n : ℕ) (event : Event) (events : List Event) (calls : List RootCall) → IsBy n event calls
     → offers_of (event ∷ events) n ≡ calls
 unfolding offers_of
-offers-own n event events calls by =
-    ap (λ o. if option_map_or (λ m. m == n) o false then offered event else offers_of events n) by.node
-    ∙ ap (λ b. if b then offered event else offers_of events n) (eq-eqb n n refl) ∙ by.calls_are
+offers-own n event events calls by = grind (arith, common_steps, eq-eqb)
 
 -- ---- what holds of each node
 
@@ -47,8 +45,7 @@ Offers events n (Some node) = HasOffers events n node
 
 stays : (events : List Event) (event : Event) (m : ℕ) (found : Option Node)
     → offers_of (event ∷ events) m ≡ offers_of events m → Offers events m found → Offers (event ∷ events) m found
-stays events event m None same holds = same ∙ holds
-stays events event m (Some node) same holds = record { offers = holds.offers ∙ sym same; down = holds.down }
+stays events event m found same holds = grind (arith, common_steps)
 
 -- a node of whose command the event is
 own : (events : List Event) (n : ℕ) (node : Node) (event : Event) → IsBy n event node.offers
@@ -58,10 +55,7 @@ own events n node event by down = record { offers = sym (offers-own n event even
 -- a node that an order left down offers nothing
 down-after : (node : Node) (deed : Deed) (end : End) → (node_after node deed end).is_up ≡ false
     → (node_after node deed end).offers ≡ []
-down-after node deed Whole low = absurd (true≢false low)
-down-after node deed Crashed low = refl
-down-after node deed Kept low = refl
-down-after node deed Lost low = refl
+down-after node deed end low = grind (arith, common_steps, true≢false)
 
 module _ (dig : List ℕ → List ℕ) (world : World) (first : OperatorIsFirst world) (events : List Event) where
   abbrev After : Act → ℕ → Option Node → Type 0
@@ -88,9 +82,7 @@ module _ (dig : List ℕ → List ℕ) (world : World) (first : OperatorIsFirst 
       → EachNode (After act) (done dig world act).world.nodes
   kept act known each =
       each_node_keeps (Offers events) (After act) dig world act known each (record {
-        others = λ m other found.
-            stays events (done dig world act).event m found
-            (offers-other m (done dig world act).event events (commands-others dig world first act known m other));
+        others = grind (arith, common_steps, stays, offers-other, commands-others);
         own = own-kept act known;
       })
 
@@ -102,8 +94,7 @@ OfferedIn entries world = EachNode (Offers (events_of entries)) world.nodes
 begins : (tag operator most : ℕ)
     → OfferedIn (entry_of (Line.Chain tag operator most) (begun tag operator most) ∷ []) (begun tag operator most).world
 unfolding offers_of events_of
-begins tag operator most zero = record { offers = refl; down = λ low. refl }
-begins tag operator most (suc n) = refl
+begins tag operator most h3 = grind (arith, common_steps)
 
 -- node n of a run has its offers
 of-run : (dig : List ℕ → List ℕ) (lines : List Line) (run : Run) (world : World) (n : ℕ) (node : Node)

@@ -1,18 +1,16 @@
 -- What the operator makes, and the records that it adds, are bytes.
-use Rattle.std.proofs.Common.{◌≡◌, ℕ, ◌==◌, ◌&&◌, Bool, true, false, if◌then◌else◌, List, [], ◌∷◌, drop, length, Option, Some, None, Ok, Err, refl, sym, subst, lit<}
+use Rattle.std.proofs.Common.{◌≡◌, ℕ, ◌==◌, ◌&&◌, Bool, true, false, if◌then◌else◌, List, [], ◌∷◌, drop, length, Option, Some, None, Ok, Err, refl, subst, lit<, arith}
 use Rattle.std.specs.Prelude.{Result, IfSome, reverse, nat_le, nat_lt}
-use Rattle.std.specs.List.{AllByRecursion, filter_map, cons_option}
+use Rattle.std.specs.List.{AllByRecursion, filter_map}
 use Rattle.std.specs.Str.{bytes_eq}
 use Rattle.node_journal.specs.Effect.{Effect, only, unless}
 use Rattle.line_forms.proofs.FormLaws.{and_then_some}
 use Rattle.sparse_merkle.specs.declared.tree.Entry.{Entry}
 use Rattle.sparse_merkle.specs.TreeDigest.{root_of}
 use Rattle.plasma_tx.specs.declared.opening.RawOpening.{RawOpening}
-use Rattle.plasma_tx.specs.declared.signed_tx.SignedTx.{SignedTx}
-use Rattle.plasma_tx.specs.declared.signed_tx.TxRefusal.{TxRefusal}
 use Rattle.plasma_tx.specs.declared.call.RootCall.{RootCall}
 use Rattle.plasma_tx.specs.declared.views.CoinView.{CoinView}
-use Rattle.plasma_tx.specs.Spelling.{number_at, signed_in}
+use Rattle.plasma_tx.specs.Spelling.{number_at}
 use Rattle.plasma_tx.specs.Views.{coin_at, blocks}
 use Rattle.plasma_tx.proofs.Names.{some_same}
 use Rattle.plasma_tx.specs.Shown.{root_at}
@@ -21,13 +19,14 @@ use Rattle.coin_history.specs.declared.bundle.Bundle.{Bundle}
 use Rattle.operator_rules.specs.declared.refusal.OfferRefusal.{OfferRefusal}
 use Rattle.operator_rules.specs.declared.refusal.ProveRefusal.{ProveRefusal}
 use Rattle.operator_rules.specs.Records.{Note, Offered, Laid, Sealed, spells_transfer, note_text, note_in, who_is, notes_of}
-use Rattle.operator_rules.specs.Trees.{Forest, coin_named, forest_of, tree_of, tree_at, opening_in_tree}
-use Rattle.operator_rules.specs.Commands.{forest_in, offer_at, offer_of, offer_effect, lay_effect, seal_effect, prove_by, prove_answer, with_opening, openings_of, as_bundle, bundle_between, bundle_to, bundle_of, bundle_answer, absences_answer, tip_asked}
+use Rattle.operator_rules.specs.Trees.{Forest, forest_of, tree_of, tree_at, opening_in_tree}
+use Rattle.operator_rules.specs.Commands.{forest_in, offer_effect, lay_effect, seal_effect, prove_by, prove_answer, openings_of, as_bundle, bundle_between, bundle_to, bundle_of, bundle_answer, absences_answer, tip_asked}
 use Rattle.world_rules.specs.Laws.{IsDigest}
 use Rattle.node_replies.proofs.ByteTexts.{Small, small-nil, small-cons, small-append, small-drop, small-number, small-back}
 use Rattle.node_replies.proofs.BundleTexts.{IsSmallOpening, AreSmallOpenings, small-bundle}
 use Rattle.world_rules.proofs.ItemTexts.{IsSmallTree, tree-with, opening-small}
 use Rattle.std.proofs.lemmas.List.{reverse-append}
+use Rattle.std.proofs.lemmas.Grind.{common_steps}
 use Rattle.coin_history.specs.Bundles.{bundle_text}
 use Rattle.operator_rules.specs.declared.TheConstants.{MOST_LAID}
 use Rattle.coin_history.specs.History.{committed_blocks}
@@ -77,28 +76,18 @@ note-small tag (mark ∷ bytes) note small is =
 read-notes : (tag : List ℕ) (records : List (List ℕ)) → AreSmallRecords records
     → AllByRecursion IsSmallNote (filter_map (note_in tag) records)
 read-notes tag [] small = tt
-read-notes tag (body ∷ records) small =
-    (elim (note_in tag body) as (λ o. note_in tag body ≡ o
-    → AllByRecursion IsSmallNote (cons_option o (filter_map (note_in tag) records))) [
-      | None ↦ λ none. read-notes tag records small.1
-      | Some note ↦ λ some. (note-small tag body note small.0 some, read-notes tag records small.1)
-    ]) refl
+read-notes tag (body ∷ records) small = grind (arith, common_steps, read-notes tag records small.1, note-small)
 
 all-reverse : {X : Type 0} (P : X → Type 0) (xs : List X) → AllByRecursion P xs → AllByRecursion P (reverse xs)
 all-reverse P [] all = tt
-all-reverse P (x ∷ xs) all =
-    subst (AllByRecursion P) (sym (reverse-append (x ∷ []) xs))
-    (all-append P (reverse xs) x (all-reverse P xs all.1) all.0)
+all-reverse P (x ∷ xs) all = grind (arith, common_steps, all-reverse P xs all.1, reverse-append, all-append)
 
 drop-one : (records : List (List ℕ)) → AreSmallRecords records → AreSmallRecords (drop 1 records)
-drop-one [] small = tt
-drop-one (body ∷ records) small = small.1
+drop-one records small = grind (arith, common_steps)
 
 notes-small : (records : List (List ℕ)) → AreSmallRecords records → AllByRecursion IsSmallNote (notes_of records)
 unfolding notes_of
-notes-small records small =
-    all-reverse IsSmallNote (filter_map (note_in (who_is records).tag) (drop 1 records))
-    (read-notes (who_is records).tag (drop 1 records) (drop-one records small))
+notes-small records small = grind (arith, common_steps, all-reverse, read-notes, drop-one)
 
 -- ---- trees
 
@@ -109,21 +98,9 @@ record IsSmallForest (forest : Forest) : Type 0 where
 forest-small : (notes : List Note) → AllByRecursion IsSmallNote notes → IsSmallForest (forest_of notes)
 unfolding forest_of
 forest-small [] small = record { pool = tt; sealed = tt }
-forest-small (Offered bytes ∷ notes) small =
-    let before = forest-small notes small.1 in
-    record {
-      pool = tree-with (forest_of notes).pool (coin_named bytes) bytes before.pool small.0;
-      sealed = before.sealed;
-    }
-forest-small (Laid coin bytes ∷ notes) small =
-    let before = forest-small notes small.1 in
-    record { pool = tree-with (forest_of notes).pool coin bytes before.pool small.0; sealed = before.sealed }
-forest-small (Sealed ∷ notes) small =
-    let before = forest-small notes small.1 in
-    record {
-      pool = tt;
-      sealed = all-append IsSmallTree (forest_of notes).sealed (forest_of notes).pool before.sealed before.pool;
-    }
+forest-small (Offered bytes ∷ notes) small = grind (arith, common_steps, forest-small notes small.1, tree-with)
+forest-small (Laid coin bytes ∷ notes) small = grind (arith, common_steps, forest-small notes small.1, tree-with)
+forest-small (Sealed ∷ notes) small = grind (arith, common_steps, forest-small notes small.1, all-append)
 
 -- ---- answers
 
@@ -148,20 +125,7 @@ module _ (dig : List ℕ → List ℕ) (is_digest : IsDigest dig) (log : List Ro
       → openings_of dig log sealed coin blocks ≡ Ok openings → AreSmallOpenings openings
   unfolding openings_of
   openings-small coin [] openings is = let same : [] ≡ openings = cc is in subst AreSmallOpenings same tt
-  openings-small coin (n ∷ blocks) openings is =
-      at (prove_by dig coin n (tree_at dig log sealed n)) (openings_of dig log sealed coin blocks) refl refl is
-      (openings-small coin blocks)
-    where
-      at : (first : Result RawOpening ProveRefusal) (rest : Result (List RawOpening) ProveRefusal)
-          → prove_by dig coin n (tree_at dig log sealed n) ≡ first → openings_of dig log sealed coin blocks ≡ rest
-          → with_opening first rest ≡ Ok openings
-          → ((more : List RawOpening) → openings_of dig log sealed coin blocks ≡ Ok more → AreSmallOpenings more)
-          → AreSmallOpenings openings
-      at (Err why) rest one others is each = absurd (cc is)
-      at (Ok opening) (Err why) one others is each = absurd (cc is)
-      at (Ok opening) (Ok more) one others is each =
-          let same : opening ∷ more ≡ openings = cc is in
-          subst AreSmallOpenings same (proved-small coin n opening one, each more others)
+  openings-small coin (n ∷ blocks) openings is = grind (arith, common_steps, openings-small coin blocks, proved-small)
 
   between-small : (coin after tip : ℕ) (bundle : Bundle) → bundle_between dig log sealed coin after tip ≡ Ok bundle
       → Small (bundle_text bundle)
@@ -237,23 +201,12 @@ taken coin bytes = record { answer = Ok coin; note = Some (note_text (Offered by
 offered-small : (failed : Option OfferRefusal) (coin : ℕ) (bytes : List ℕ) → Small bytes
     → IfSome (unless failed (taken coin bytes)).note Small
 unfolding note_text
-offered-small None coin bytes small = small-cons 34 (lit< tt) small
-offered-small (Some why) coin bytes small = tt
+offered-small failed coin bytes small = grind (arith, common_steps, small-cons)
 
 pub offer-noted : (dig : List ℕ → List ℕ) (records : List (List ℕ)) (log : List RootCall) (bytes : List ℕ)
     → Small bytes → IfSome (offer_effect dig records log bytes).note Small
 unfolding offer_effect
-offer-noted dig records log bytes small = of_tx (signed_in (who_is records).tag bytes)
-  where
-    at_coin : (tx : SignedTx) (made : Option CoinView)
-        → IfSome (offer_at dig (who_is records).tag log (forest_in records) bytes tx made).note Small
-    at_coin tx None = tt
-    at_coin tx (Some made) = offered-small _ tx.body.coin bytes small
-
-    of_tx : (read : Result SignedTx TxRefusal)
-        → IfSome (offer_of dig (who_is records).tag log (forest_in records) bytes read).note Small
-    of_tx (Err why) = tt
-    of_tx (Ok tx) = at_coin tx (coin_at log tx.body.coin)
+offer-noted dig records log bytes small = grind (arith, common_steps, offered-small)
 
 pub lay-noted : (coin : ℕ) (bytes : List ℕ) → Small bytes → IfSome (lay_effect coin bytes).note Small
 unfolding lay_effect note_text

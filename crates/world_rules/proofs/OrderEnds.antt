@@ -1,7 +1,8 @@
 -- How the orders of nodes end: a command of a node is one order, which is refused or answered; by that it is an event,
 -- and offers calls.
-use Rattle.std.proofs.Common.{◌≡◌, ℕ, Bool, true, false, List, [], ◌∷◌, Some, Ok, Err, refl, subst}
+use Rattle.std.proofs.Common.{◌≡◌, ℕ, Bool, true, false, List, [], ◌∷◌, Some, Ok, arith}
 use Rattle.std.specs.Prelude.{Result}
+use Rattle.std.proofs.lemmas.Grind.{common_steps}
 use Rattle.line_forms.proofs.FormLaws.{option_map_some}
 use Rattle.sparse_merkle.specs.TreeDigest.{root_of}
 use Rattle.plasma_tx.specs.declared.owner.Owner.{Owner}
@@ -25,9 +26,9 @@ use Rattle.node_replies.specs.declared.order.OperatorOrder.{OperatorOrder}
 use Rattle.node_replies.specs.Causes.{wallet_cause, watcher_cause, offer_cause, lay_cause, prove_cause}
 use Rattle.node_replies.specs.Orders.{Response, refused, answered, on_accepted, on_sent, on_leaving, on_reclaimed, on_migrated, wallet_does, on_guarded, on_released, watcher_does, on_pooled, on_laid, on_bundled, on_proved, operator_does}
 use Rattle.world_rules.specs.Events.{Event, Accepts, Guards, Releases, Binds, TakesBack, Watches, Leaves, Seals, Other}
-use Rattle.world_rules.specs.World.{Role, Wallet, Watcher, Operator, Node, World, wallet_of, is_wallet_role, is_watcher_role, is_operator_role}
+use Rattle.world_rules.specs.World.{Role, Node, World, wallet_of, is_wallet_role, is_watcher_role, is_operator_role}
 use Rattle.world_rules.specs.Declarations.{plays}
-use Rattle.world_rules.specs.Orders.{wallet_order, watch_order, order_of, on_open, node_does}
+use Rattle.world_rules.specs.Orders.{order_of, on_open, node_does}
 use Rattle.world_rules.specs.OrderEvents.{bundle_read, event_of}
 
 -- ---- the order of a command
@@ -43,17 +44,7 @@ IsOrderAt role NodeOrder.Open = Unit {0}
 pub order-role : (world : World) (role : Role) (command : Command) (order : NodeOrder) → plays command role ≡ true
     → order_of world role command ≡ Some order → IsOrderAt role order
 unfolding order_of
-order-role world role (Command.Wallet name own) order may is =
-    subst (IsOrderAt role) (option_map_some NodeOrder.Wallet (wallet_order world own) order is).2 may
-order-role world role (Command.Watcher name own) order may is = subst (IsOrderAt role) (some_same _ order is) may
-order-role world role (Command.Operator own) order may is = subst (IsOrderAt role) (some_same _ order is) may
-order-role world role (Command.Watch name) order may is = by role is
-  where
-    by : (r : Role) → watch_order r ≡ Some order → IsOrderAt r order
-    by Wallet is = subst (IsOrderAt Wallet) (some_same _ order is) refl
-    by Watcher is = subst (IsOrderAt Watcher) (some_same _ order is) refl
-    by Operator wrong = absurd (cc wrong)
-order-role world role (Command.Open name) order may is = subst (IsOrderAt role) (some_same _ order is) tt
+order-role world role command order may is = grind (arith, common_steps, option_map_some, some_same)
 
 -- ---- answers
 
@@ -61,8 +52,7 @@ order-role world role (Command.Open name) order may is = subst (IsOrderAt role) 
 pub each-answer : {A E : Type 0} (P : Response → Type 0) (cause : E → List ℕ) (give : A → Response)
     (result : Result A E) → ((answer : A) → result ≡ Ok answer → P (give answer)) → ((why : List ℕ) → P (refused why))
     → P (answered cause give result)
-each-answer P cause give (Ok answer) each none = each answer refl
-each-answer P cause give (Err why) each none = none (cause why)
+each-answer P cause give result each none = grind (arith, common_steps)
 
 -- the event of an order of wallet n, by its answer; and of one of watcher n
 abbrev pub wallet_told : {A : Type 0} → ℕ → WalletOrder → (A → Response) → Result A WalletRefusal → Event
@@ -168,7 +158,4 @@ module _ (dig : List ℕ → List ℕ) (log : List RootCall) (n : ℕ) (node : N
   opening-ends false = Others _
 
   pub order-ends : (order : NodeOrder) → Ends order (node_does dig log node order).response
-  order-ends (NodeOrder.Wallet order) = wallet-ends order
-  order-ends (NodeOrder.Watcher order) = watcher-ends order
-  order-ends (NodeOrder.Operator order) = operator-ends order
-  order-ends NodeOrder.Open = opening-ends node.is_up
+  order-ends order = grind (arith, common_steps, wallet-ends, watcher-ends, operator-ends, opening-ends)

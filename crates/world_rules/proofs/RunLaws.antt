@@ -1,10 +1,10 @@
 -- The log and the mail of a run are those of its events and of what its lines made.
-use Rattle.std.proofs.Common.{◌≡◌, ℕ, List, [], ◌∷◌, ◌++◌, map, reverse, inl, inr, refl, sym, ap, ◌∙◌}
-use Rattle.std.proofs.lemmas.Grind.{reverse_onto}
-use Rattle.world_rules.specs.Events.{Event, Joins, log_of}
+use Rattle.std.proofs.Common.{◌≡◌, ℕ, List, [], ◌∷◌, ◌++◌, map, reverse, refl, sym, ap, ◌∙◌, arith}
+use Rattle.std.proofs.lemmas.Grind.{common_steps, reverse_onto}
+use Rattle.world_rules.specs.Events.{Event, log_of}
 use Rattle.world_rules.specs.World.{World}
 use Rattle.world_rules.specs.Steps.{TraceEntry, events_of}
-use Rattle.world_rules.specs.Acts.{NewWallet, NewWatcher, NewRogue, Act, Adds, done}
+use Rattle.world_rules.specs.Acts.{Act, done}
 use Rattle.world_rules.specs.Laws.{LogsAreOfEvents, ItemsAreMade}
 use Rattle.world_rules.proofs.StepLaws.{act-log}
 use Rattle.world_rules.proofs.Lives.{line_effect, IsAny, any_run, runs_keep}
@@ -13,22 +13,14 @@ use Rattle.world_rules.proofs.Lives.{line_effect, IsAny, any_run, runs_keep}
 
 log-step : (event : Event) (events : List Event) → log_of (event ∷ []) ≡ [] → log_of (event ∷ events) ≡ log_of events
 unfolding log_of
-log-step (Joins call) events none = absurd (cc none)
-log-step event events none = refl
+log-step event events none = grind (arith, common_steps)
 
 -- one more act
 pub log-more : (dig : List ℕ → List ℕ) (world : World) (act : Act) (events : List Event)
     → world.chain.log ≡ log_of events
     → (line_effect dig world act).world.chain.log ≡ log_of ((done dig world act).event ∷ events)
 unfolding log_of
-log-more dig world act events has =
-    elim (act-log dig world act) [
-      | inl left ↦
-          ap (λ c. c.log) left.chain ∙ has ∙ sym (log-step (done dig world act).event events left.event)
-      | inr more ↦
-          ap (λ c. c.log) more.chain ∙ ap (λ log. more.call ∷ log) has
-          ∙ ap (λ e. log_of (e ∷ events)) (sym more.event)
-    ]
+log-more dig world act events has = grind (arith, common_steps, act-log, log-step)
 
 pub logs_are_of_events : LogsAreOfEvents
 unfolding log_of events_of
@@ -44,10 +36,7 @@ logs_are_of_events dig lines run world is world_is =
 -- before its own item a line leaves the mail
 mail-stays : (dig : List ℕ → List ℕ) (world : World) (act : Act) → (done dig world act).world.mail ≡ world.mail
 unfolding done
-mail-stays dig world (Adds name (NewWallet who)) = refl
-mail-stays dig world (Adds name (NewWatcher account)) = refl
-mail-stays dig world (Adds name (NewRogue who)) = refl
-mail-stays dig world act = refl
+mail-stays dig world act = grind (arith, common_steps)
 
 pub items_are_made : ItemsAreMade
 items_are_made dig lines run world is world_is =

@@ -1,9 +1,10 @@
 -- What the events of a run say of one node, and what one more event adds to it.
-use Rattle.std.proofs.Common.{◌≡◌, ℕ, ◌==◌, not, Bool, true, false, if◌then◌else◌, List, [], ◌∷◌, filter, Option, Some, None, refl, ap, ◌∙◌}
+use Rattle.std.proofs.Common.{◌≡◌, ℕ, ◌==◌, not, Bool, true, false, if◌then◌else◌, List, [], ◌∷◌, filter, Option, Some, None, refl, ap, ◌∙◌, arith}
+use Rattle.std.proofs.lemmas.Grind.{common_steps}
 use Rattle.plasma_tx.specs.declared.owner.Owner.{Owner}
 use Rattle.plasma_tx.specs.declared.body.Body.{Body}
 use Rattle.coin_history.specs.declared.bundle.Bundle.{Bundle}
-use Rattle.world_rules.specs.Events.{Event, Declares, Accepts, Guards, Releases, Binds, TakesBack, Watches, Leaves, Seals, wallet_owner, accepted, bound_by, taken_back, guarded_by, is_bundle}
+use Rattle.world_rules.specs.Events.{Event, Declares, Accepts, Guards, Releases, Binds, TakesBack, wallet_owner, accepted, bound_by, taken_back, guarded_by, is_bundle}
 use Rattle.world_rules.specs.Steps.{without_offers}
 
 -- what is said of a node: its owner, what its leaves bind and which it took back, and the bundles that it accepted or
@@ -56,28 +57,7 @@ said-none n = refl
 pub said-more : (event : Event) (events : List Event) (n : ℕ)
     → said (event ∷ events) n ≡ (if is_said_of n event then told event (said events n) else said events n)
 unfolding said wallet_owner accepted bound_by taken_back guarded_by
-said-more (Declares v me) events n = elim (v == n) as (λ b.
-    record (said events n) { owner = if b then Some me else wallet_owner events n }
-    ≡ (if b then told (Declares v me) (said events n) else said events n)) [ true ↦ refl | false ↦ refl ]
-said-more (Accepts v bundle) events n = elim (v == n) as (λ b.
-    record (said events n) { accepted = if b then bundle ∷ accepted events n else accepted events n }
-    ≡ (if b then told (Accepts v bundle) (said events n) else said events n)) [ true ↦ refl | false ↦ refl ]
-said-more (Guards v bundle) events n = elim (v == n) as (λ b.
-    record (said events n) { guarded = if b then bundle ∷ guarded_by events n else guarded_by events n }
-    ≡ (if b then told (Guards v bundle) (said events n) else said events n)) [ true ↦ refl | false ↦ refl ]
-said-more (Releases v c e) events n = elim (v == n) as (λ b.
-    record (said events n) {
-      guarded =
-          if b then filter (λ bundle. not (is_bundle c e bundle)) (guarded_by events n) else guarded_by events n;
-    }
-    ≡ (if b then told (Releases v c e) (said events n) else said events n)) [ true ↦ refl | false ↦ refl ]
-said-more (Binds v body) events n = elim (v == n) as (λ b.
-    record (said events n) { bound = if b then body ∷ bound_by events n else bound_by events n }
-    ≡ (if b then told (Binds v body) (said events n) else said events n)) [ true ↦ refl | false ↦ refl ]
-said-more (TakesBack v q bundle) events n = elim (v == n) as (λ b.
-    record (said events n) { taken = if b then q ∷ taken_back events n else taken_back events n }
-    ≡ (if b then told (TakesBack v q bundle) (said events n) else said events n)) [ true ↦ refl | false ↦ refl ]
-said-more event events n = refl
+said-more event events n = grind (arith, common_steps)
 
 -- of this node
 pub said-own : (event : Event) (events : List Event) (n : ℕ) → is_said_of n event ≡ true
@@ -93,7 +73,4 @@ said-other event events n other =
 
 -- a cut's event says the same
 pub cut-told : (n : ℕ) (event : Event) (s : Said) → told (without_offers n event) s ≡ told event s
-cut-told n (Watches m calls) s = refl
-cut-told n (Leaves m call) s = refl
-cut-told n (Seals call) s = refl
-cut-told n event s = refl
+cut-told n event s = grind (arith, common_steps)

@@ -1,11 +1,9 @@
 -- What each step does to the log.
-use Rattle.std.proofs.Common.{◌≡◌, ◌⊎◌, ℕ, Bool, true, false, if◌then◌else◌, List, [], ◌∷◌, inl, inr, refl, ap, subst}
+use Rattle.std.proofs.Common.{◌⊎◌, ℕ, List, [], inl, inr, refl, subst, arith}
+use Rattle.std.proofs.lemmas.Grind.{common_steps}
 use Rattle.plasma_tx.specs.declared.call.RootCall.{RootCall}
-use Rattle.plasma_tx.specs.declared.answer.Answer.{Answer}
-use Rattle.plasma_tx.specs.Chain.{with_log}
-use Rattle.plasma_tx.specs.Shown.{tests_by, rules_of}
-use Rattle.plasma_tx.specs.Table.{answer_to, is_accepted, log_after}
-use Rattle.world_rules.specs.Events.{Joins, Bounces, log_of}
+use Rattle.plasma_tx.specs.Table.{log_after}
+use Rattle.world_rules.specs.Events.{log_of}
 use Rattle.world_rules.specs.World.{World}
 use Rattle.world_rules.specs.Steps.{LineEffect, called}
 use Rattle.world_rules.specs.Acts.{NewWallet, NewWatcher, NewRogue, Act, Rests, Signs, Adds, Enters, Orders, Crashes, end_of, deed_at, done, callers_after}
@@ -22,23 +20,7 @@ module _ (dig : List ℕ → List ℕ) (world : World) where
   called-log : (callers : List ℕ) (call : RootCall)
       → KeepsLog (called dig (record world { raw_callers = callers }) call)
   unfolding log_after log_of
-  called-log callers call = by (is_accepted answer) refl
-    where
-      answer : Answer
-      answer = answer_to (tests_by dig) (rules_of world.chain) world.chain.log call
-
-      by : (b : Bool) → is_accepted answer ≡ b
-          → KeepsLog (called dig (record world { raw_callers = callers }) call)
-      by true taken = inr (record {
-        call = call;
-        accepted = taken;
-        chain = ap (λ b. with_log world.chain (if b then call ∷ world.chain.log else world.chain.log)) taken;
-        event = ap (λ b. if b then Joins call else Bounces call) taken;
-      })
-      by false refused = inl (record {
-        chain = ap (λ b. with_log world.chain (if b then call ∷ world.chain.log else world.chain.log)) refused;
-        event = ap (λ b. log_of ((if b then Joins call else Bounces call) ∷ [])) refused;
-      })
+  called-log callers call = grind (arith, common_steps)
 
   -- so does each act, with its line's mail item
   pub act-log : (act : Act) → KeepsLog (line_effect dig world act)
@@ -55,12 +37,7 @@ module _ (dig : List ℕ → List ℕ) (world : World) where
 
       by : KeepsLog effect → KeepsLog (line_effect dig world (Enters origin call))
       by (inl left) = inl (record { chain = left.chain; event = left.event })
-      by (inr more) = inr (record {
-        call = more.call;
-        accepted = more.accepted;
-        chain = more.chain;
-        event = more.event;
-      })
+      by (inr more) = grind (arith, common_steps)
   act-log (Orders place order cut) =
       let deed = deed_at dig world place order in
       let ends = order-ends dig world.chain.log place.number place.node order in

@@ -1,22 +1,21 @@
 -- The event of an act is of the node that it changes, so it says nothing of the others; and what it says of that one.
-use Rattle.std.proofs.Common.{◌≡◌, ℕ, ◌==◌, Bool, true, false, if◌then◌else◌, List, [], length, Option, Some, None, refl, sym, ap, ◌∙◌}
+use Rattle.std.proofs.Common.{◌≡◌, ℕ, true, false, List, [], length, Option, Some, None, refl, sym, ap, arith}
 use Rattle.std.specs.Prelude.{slice_get}
-use Rattle.std.specs.Option.{option_map_or}
 use Rattle.std.proofs.lemmas.Bool.{ne_eqb}
+use Rattle.std.proofs.lemmas.Grind.{common_steps}
 use Rattle.plasma_tx.specs.declared.call.RootCall.{RootCall}
-use Rattle.plasma_tx.specs.Shown.{tests_by, rules_of}
-use Rattle.plasma_tx.specs.Table.{answer_to, is_accepted}
+use Rattle.plasma_tx.specs.Shown.{rules_of}
 use Rattle.node_replies.specs.declared.order.NodeOrder.{NodeOrder}
-use Rattle.world_rules.specs.Events.{Event, Joins, Bounces, Watches, Leaves, Seals, node_in, is_command_of, offered}
+use Rattle.world_rules.specs.Events.{Event, node_in, is_command_of, offered}
 use Rattle.world_rules.specs.World.{Node, World, is_operator_role}
 use Rattle.world_rules.specs.Deeds.{Deed}
 use Rattle.world_rules.specs.Steps.{without_offers}
 use Rattle.world_rules.proofs.OrderEnds.{OrderEnds, Sealing, order-ends}
 use Rattle.world_rules.proofs.NodeEvents.{IsTold, event_told, told-after}
 use Rattle.world_rules.proofs.Said.{is_said_of}
-use Rattle.world_rules.specs.Acts.{Place, NewWallet, NewWatcher, NewRogue, Act, Rests, Signs, Adds, Enters, Orders, Crashes, End, Whole, Crashed, Kept, Lost, end_of, node_after, event_after, deed_at, done}
+use Rattle.world_rules.specs.Acts.{Place, NewWallet, NewWatcher, NewRogue, Act, Rests, Signs, Adds, Enters, Orders, Crashes, End, end_of, node_after, event_after, deed_at, done}
 use Rattle.world_rules.specs.Evidence.{has_order, MayOrder, IsActIn}
-use Rattle.world_rules.proofs.Nodes.{Change, NoNode, OneNode, NewNode, change_of, IsOther}
+use Rattle.world_rules.proofs.Nodes.{Change, OneNode, change_of, IsOther}
 
 -- the event is a command of node n, by which it offers these calls
 pub record IsBy (n : ℕ) (event : Event) (calls : List RootCall) : Type 0 where
@@ -25,10 +24,7 @@ pub record IsBy (n : ℕ) (event : Event) (calls : List RootCall) : Type 0 where
 
 -- a cut command is by its node too, which offers nothing then
 cut-by : (n : ℕ) (event : Event) → node_in event ≡ Some n → IsBy n (without_offers n event) []
-cut-by n (Watches m calls) by = record { node = refl; calls_are = refl }
-cut-by n (Leaves m call) by = record { node = refl; calls_are = refl }
-cut-by n (Seals call) by = record { node = refl; calls_are = refl }
-cut-by n event by = record { node = by; calls_are = refl }
+cut-by n event by = grind (arith, common_steps)
 
 -- the first node alone is the operator
 abbrev pub OperatorIsFirst : World → Type 0
@@ -58,42 +54,18 @@ module _ (dig : List ℕ → List ℕ) (world : World) (first : OperatorIsFirst 
     -- however it ends
     pub by-end : (end : End)
         → IsBy place.number (event_after place.number deed end) (node_after place.node deed end).offers
-    by-end Whole = by-order
-    by-end Crashed = cut-by place.number deed.gives.event by-order.node
-    by-end Kept = cut-by place.number deed.gives.event by-order.node
-    by-end Lost = record { node = refl; calls_are = refl }
+    by-end end = grind (arith, common_steps, by-order, cut-by)
 
   -- the event is by the node that changes, or by none
   pub event-by : (act : Act) → IsActIn world act
       → node_in (done dig world act).event ≡ number_changed (change_of dig world act)
   unfolding done
-  event-by (Rests reply) known = refl
-  event-by (Signs leaf body rogue) known = refl
-  event-by (Adds name (NewWallet who)) known = refl
-  event-by (Adds name (NewWatcher account)) known = refl
-  event-by (Adds name (NewRogue who)) known = refl
-  event-by (Enters origin call) known =
-      by (is_accepted (answer_to (tests_by dig) (rules_of world.chain) world.chain.log call))
-    where
-      by : (b : Bool) → node_in (if b then Joins call else Bounces call) ≡ None
-      by true = refl
-      by false = refl
-  event-by (Orders place order cut) known =
-      (by-end place order known (end_of cut place.node order (deed_at dig world place order))).node
-  event-by (Crashes place) known = refl
+  event-by act known = grind (arith, common_steps, by-end)
 
   -- so it is no command of the others
   pub commands-others : (act : Act) → IsActIn world act → (m : ℕ) → IsOther world.nodes (change_of dig world act) m
       → is_command_of m (done dig world act).event ≡ false
-  commands-others act known m other =
-      ap (λ (o : Option ℕ). option_map_or (λ n. n == m) o false) (event-by act known)
-      ∙ by (change_of dig world act) other
-    where
-      by : (change : Change) → IsOther world.nodes change m
-          → option_map_or (λ n. n == m) (number_changed change) false ≡ false
-      by NoNode other = refl
-      by (OneNode place after) other = ne_eqb place.number m other
-      by (NewNode node) other = refl
+  commands-others act known m other = grind (arith, common_steps, event-by, change_of, ne_eqb)
 
 module _ (dig : List ℕ → List ℕ) (world : World) where
   -- what an order tells of its node, however it ends
@@ -113,12 +85,7 @@ module _ (dig : List ℕ → List ℕ) (world : World) where
   said-others (Adds name (NewWallet who)) m other = ne_eqb (length world.nodes) m other
   said-others (Adds name (NewWatcher account)) m other = refl
   said-others (Adds name (NewRogue who)) m other = refl
-  said-others (Enters origin call) m other =
-      by (is_accepted (answer_to (tests_by dig) (rules_of world.chain) world.chain.log call))
-    where
-      by : (b : Bool) → is_said_of m (if b then Joins call else Bounces call) ≡ false
-      by true = refl
-      by false = refl
+  said-others (Enters origin call) m other = grind (arith, common_steps, is_said_of)
   said-others (Orders place order cut) m other =
       (order-told [] place order (end_of cut place.node order (deed_at dig world place order))).others m other
   said-others (Crashes place) m other = refl
@@ -127,6 +94,4 @@ module _ (dig : List ℕ → List ℕ) (world : World) where
 pub rules-stay : (dig : List ℕ → List ℕ) (world : World) (act : Act)
     → rules_of (done dig world act).world.chain ≡ rules_of world.chain
 unfolding done
-rules-stay dig world (Adds name (NewWallet who)) = refl
-rules-stay dig world (Adds name (NewWatcher account)) = refl
-rules-stay dig world act = refl
+rules-stay dig world act = grind (arith, common_steps)

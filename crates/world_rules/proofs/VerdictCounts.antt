@@ -1,9 +1,10 @@
 -- How many verdicts there are on a wallet and a coin, and what a verdict is on.
-use Rattle.std.proofs.Common.{◌≡◌, ◌⊎◌, ℕ, zero, suc, ◌+◌, ◌<◌, ◌≤◌, ◌==◌, cond, Bool, true, false, if◌then◌else◌, List, [], ◌∷◌, ◌++◌, slice_get, bytes_eq, Contains, count_by, flat_map, filter_map, option_map, option_and_then, Option, Some, None, inl, inr, refl, sym, ap, ◌∙◌, subst, arith}
+use Rattle.std.proofs.Common.{◌≡◌, ◌⊎◌, ℕ, zero, suc, ◌+◌, ◌<◌, ◌≤◌, ◌==◌, cond, Bool, true, false, if◌then◌else◌, List, [], ◌∷◌, ◌++◌, slice_get, bytes_eq, Contains, count_by, flat_map, filter_map, option_map, option_and_then, Option, Some, None, inl, inr, refl, sym, ap, ◌∙◌, subst, arith, rules}
 use Rattle.std.specs.List.{cons_option, range_with_len}
 use Rattle.std.proofs.lemmas.Bool.{cases_eq, eq-eqb, ne_eqb, and_from, and_left, and_right}
 use Rattle.std.proofs.lemmas.List.Sums.{sum_by-cons, sum_by-append}
-use Rattle.std.proofs.lemmas.List.Elements.{Contains-append_cases, Contains-push_cases}
+use Rattle.std.proofs.lemmas.List.Elements.{Contains-append_cases}
+use Rattle.std.proofs.lemmas.Grind.{common_steps}
 use Rattle.line_forms.proofs.FormLaws.{and_then_some, option_map_some}
 use Rattle.plasma_tx.specs.declared.owner.Owner.{Owner}
 use Rattle.plasma_tx.specs.Views.{coins}
@@ -38,8 +39,7 @@ module _ (p : Verdict → Bool) (f : ℕ → Option Verdict) where
 
   skip : (o : Option Verdict) (rest : List Verdict) → ((v : Verdict) → o ≡ Some v → p v ≡ false)
       → count_by p (cons_option o rest) ≡ count_by p rest
-  skip None rest fail = refl
-  skip (Some v) rest fail = count-no p v rest (fail v refl)
+  skip o rest fail = grind (arith, common_steps, count-no)
 
   -- none where no coin of the range has one that passes
   pub coins-none : (n start : ℕ) → ((k : ℕ) (v : Verdict) → start ≤ k → f k ≡ Some v → p v ≡ false)
@@ -55,13 +55,9 @@ module _ (p : Verdict → Bool) (f : ℕ → Option Verdict) where
   coins-one zero start c v low high is passes fail = absurd (omega arith)
   coins-one (suc n) start c v low high is passes fail = elim (cases_eq start c) [
     | inl here ↦
-        let first : f start ≡ Some v = ap f here ∙ is in
-        ap (λ (o : Option Verdict). count_by p (cons_option o (filter_map f (range_with_len (start + 1) n)))) first
-        ∙ count-yes p v (filter_map f (range_with_len (start + 1) n)) passes
-        ∙ ap (λ (k : ℕ). 1 + k) (coins-none n (start + 1) (λ k other le some. fail k other (λ e. omega arith) some))
+        grind (arith, common_steps, count-yes, coins-none)
     | inr past ↦
-        skip (f start) (filter_map f (range_with_len (start + 1) n)) (λ other some. fail start other past some)
-        ∙ coins-one n (start + 1) c v (omega arith) (omega arith) is passes fail
+        grind (arith, common_steps, coins-one n (start + 1) c v (omega arith) (omega arith) is passes fail, skip, past)
   ]
 
 -- ---- over wallets
@@ -73,21 +69,12 @@ module _ (p : Verdict → Bool) (f : Named → List Verdict) (name : List ℕ)
 
   one-more : (wallet : Named) (rest : List Named) (here there : ℕ) → count_by p (f wallet) ≡ here
       → count_by p (flat_map f rest) ≡ there → count_by p (flat_map f (wallet ∷ rest)) ≡ here + there
-  one-more wallet rest here there first second =
-      count-append p (f wallet) (flat_map f rest) ∙ ap (λ (k : ℕ). k + count_by p (flat_map f rest)) first
-      ∙ ap (λ (k : ℕ). here + k) second
+  one-more wallet rest here there first second = grind (arith, common_steps, count-append)
 
   past : (k n : ℕ) (node : Node) (nodes : List Node) → bytes_eq node.name name ≡ false → among (k + 1) nodes ≡ n
       → among k (node ∷ nodes) ≡ n
   unfolding wallets_from
-  past k n node nodes apart rest = at (is_wallet_role node.role)
-    where
-      at : (b : Bool) → count_by p (flat_map f
-          (if b then record { number = k; name = node.name } ∷ wallets_from (k + 1) nodes
-          else wallets_from (k + 1) nodes)) ≡ n
-      at true = one-more (record { number = k; name = node.name }) (wallets_from (k + 1) nodes) 0 n
-          (none (record { number = k; name = node.name }) apart) rest ∙ omega arith
-      at false = rest
+  past k n node nodes apart rest = grind (arith, common_steps, one-more)
 
   -- none where no node has the name
   pub wallets-none : (nodes : List Node) (k : ℕ) → IsOther name (cards nodes) → among k nodes ≡ 0
@@ -102,16 +89,7 @@ module _ (p : Verdict → Bool) (f : Named → List Verdict) (name : List ℕ)
   unfolding wallets_from
   wallets-one [] k i node n distinct is wallet own count = absurd (cc is)
   wallets-one (first ∷ rest) k zero node n distinct is wallet own count =
-      let same : first ≡ node = cc is in
-      let named : first.name ≡ name = ap (λ (x : Node). x.name) same ∙ own in
-      let here : k ≡ k + zero = omega arith in
-      ap (λ (b : Bool). count_by p (flat_map f
-      (if b then record { number = k; name = first.name } ∷ wallets_from (k + 1) rest
-      else wallets_from (k + 1) rest))) (ap (λ (x : Node). is_wallet_role x.role) same ∙ wallet)
-      ∙ one-more (record { number = k; name = first.name }) (wallets_from (k + 1) rest) n 0
-      ((λ j. count_by p (f (record { number = here j; name = named j }))) ∙ count)
-      (wallets-none rest (k + 1) (subst (λ (x : List ℕ). IsOther x (cards rest)) named distinct.0))
-      ∙ omega arith
+      grind (arith, common_steps, one-more, wallets-none, cards)
   wallets-one (first ∷ rest) k (suc i) node n distinct is wallet own count =
       past k n first rest
       (names-flip name first.name (subst (λ (x : List ℕ). bytes_eq x first.name ≡ false) own
@@ -136,25 +114,7 @@ pub record IsVerdict (tests : Tests) (rules : Rules) (events : List Event) (wall
 module _ (tests : Tests) (rules : Rules) (events : List Event) where
   pub verdict-is : (wallet : Named) (c : ℕ) (verdict : Verdict)
       → verdict_of tests rules events wallet c ≡ Some verdict → IsVerdict tests rules events wallet c verdict
-  verdict-is wallet c verdict is =
-      let found = and_then_some (λ me. verdict_on tests rules events wallet me c)
-      (wallet_owner events wallet.number) verdict is in
-      let made = option_map_some
-      (λ e. record {
-        wallet = wallet.name;
-        coin = c;
-        kind = verdict_at tests rules events found.0 wallet.number c e;
-      })
-      (held_tip events wallet.number c) verdict found.2 in
-      record {
-        me = found.0;
-        tip = made.0;
-        owner = found.1;
-        tip_is = made.1;
-        name = ap (λ (v : Verdict). v.wallet) (sym made.2);
-        coin = ap (λ (v : Verdict). v.coin) (sym made.2);
-        kind = ap (λ (v : Verdict). v.kind) (sym made.2);
-      }
+  verdict-is wallet c verdict is = grind (arith, common_steps, and_then_some, option_map_some)
 
   -- there is one where the wallet is declared and has a held tip
   pub verdict-some : (wallet : Named) (c : ℕ) (me : Owner) (tip : ℕ) → wallet_owner events wallet.number ≡ Some me
@@ -173,10 +133,7 @@ module _ (tests : Tests) (rules : Rules) (events : List Event) where
   -- none is on another name
   others-none : (name : List ℕ) (c : ℕ) (wallet : Named) → bytes_eq wallet.name name ≡ false
       → count_by (is_on name c) (verdicts_on tests rules events wallet) ≡ 0
-  others-none name c wallet apart =
-      coins-none (is_on name c) (verdict_of tests rules events wallet) (coins (log_of events)) 1
-      (λ k v low is. and_left (bytes_eq v.wallet name) (v.coin == c)
-      (ap (λ (x : List ℕ). bytes_eq x name) (verdict-is wallet k v is).name ∙ apart))
+  others-none name c wallet apart = grind (arith, common_steps, coins-none, and_left, verdict-is)
 
   -- one is on a wallet and a coin of the log that has a held tip
   own-one : (c : ℕ) (wallet : Named) (me : Owner) (tip : ℕ) → wallet_owner events wallet.number ≡ Some me
@@ -211,13 +168,7 @@ nothing v found = omega (arith, found.1)
 
 among-cons : (one : Verdict) (rest : List Verdict) (v : Verdict) → Contains (one ∷ rest) v
     → (one ≡ v) ⊎ Contains rest v
-among-cons one rest v found = elim (Contains-append_cases (one ∷ []) rest v found) [
-  | inl first ↦ elim (Contains-push_cases [] one v first) [
-    | inl none ↦ absurd (nothing v none)
-    | inr same ↦ inl same
-  ]
-  | inr later ↦ inr later
-]
+among-cons one rest v found = grind (arith, common_steps, nothing)
 
 pub from-coin : (f : ℕ → Option Verdict) (n start : ℕ) (v : Verdict)
     → Contains (filter_map f (range_with_len start n)) v → (c : ℕ) × (f c ≡ Some v)
@@ -250,22 +201,12 @@ from-wallet f (node ∷ nodes) k v found =
     later : IsFrom f (k + 1) nodes v → IsFrom f k (node ∷ nodes) v
     later from =
         let on : k + 1 + from.place ≡ k + suc from.place = omega arith in
-        record {
-          place = suc from.place;
-          node = from.node;
-          is_node = from.is_node;
-          among = subst (λ (x : ℕ). Contains (f (record { number = x; name = from.node.name })) v) on from.among;
-        }
+        grind (arith, common_steps)
 
     here : Contains (f (record { number = k; name = node.name })) v → IsFrom f k (node ∷ nodes) v
     here among =
         let on : k ≡ k + zero = omega arith in
-        record {
-          place = zero;
-          node = node;
-          is_node = refl;
-          among = subst (λ (x : ℕ). Contains (f (record { number = x; name = node.name })) v) on among;
-        }
+        grind (arith, common_steps)
 
     at : (b : Bool) → Contains (flat_map f (if b then record { number = k; name = node.name } ∷ wallets_from (k + 1)
         nodes else wallets_from (k + 1) nodes)) v

@@ -1,8 +1,8 @@
 -- A wallet and a coin that it ever held have one verdict, and each verdict is on such a coin at its greatest block.
-use Rattle.std.proofs.Common.{◌≡◌, ℕ, ◌+◌, ◌≤◌, true, List, [], ◌∷◌, slice_get, Contains, count_by, Option, Some, None, inl, inr, refl, sym, ap, ◌∙◌, subst, arith}
-use Rattle.std.specs.List.{list_any}
+use Rattle.std.proofs.Common.{◌≡◌, ℕ, ◌+◌, ◌≤◌, true, List, [], ◌∷◌, slice_get, Contains, count_by, Option, Some, inl, inr, sym, ap, ◌∙◌, subst, arith, rules}
 use Rattle.std.specs.Option.{option_map_or}
 use Rattle.std.proofs.lemmas.Bool.{or_cases, false≢true, cases_eq, ne_eqb}
+use Rattle.std.proofs.lemmas.Grind.{common_steps}
 use Rattle.plasma_tx.specs.declared.call.RootCall.{RootCall}
 use Rattle.plasma_tx.specs.declared.call.RootCall.TheVariants.{Deposit}
 use Rattle.plasma_tx.specs.declared.views.CoinView.{CoinView}
@@ -11,11 +11,10 @@ use Rattle.plasma_tx.proofs.Names.{some_same}
 use Rattle.plasma_tx.specs.Shown.{tests_by, rules_of}
 use Rattle.plasma_tx.proofs.Bounds.{coin_at-le}
 use Rattle.world_rules.specs.declared.verdict.Verdict.{Verdict}
-use Rattle.world_rules.specs.Events.{Event, log_of, accepted, is_bundle}
+use Rattle.world_rules.specs.Events.{Event, log_of}
 use Rattle.world_rules.specs.World.{Wallet, Node, World, is_wallet_role}
 use Rattle.world_rules.specs.Steps.{Run, events_of}
-use Rattle.world_rules.specs.Safety.{was_deposited}
-use Rattle.world_rules.specs.Verdicts.{ever_held, held_tip, Named, verdict_at, verdict_of, verdicts_on, verdicts_in, verdicts_of}
+use Rattle.world_rules.specs.Verdicts.{ever_held, held_tip, Named, verdict_of, verdicts_on, verdicts_in, verdicts_of}
 use Rattle.world_rules.specs.Laws.{is_on, HeldCoinsHaveOneVerdict, IsOfHeld, VerdictsAreOfHeldCoins}
 use Rattle.world_rules.proofs.HeldTips.{OwnersStay, IsCoin, IsTip, ever-tip, held_tip-is, held_tip-some}
 use Rattle.world_rules.proofs.Named.{Card, card, cards, card-at}
@@ -43,17 +42,7 @@ verdicts-are dig run world is =
 module _ (world : World) (events : List Event) (kept : Kept (cards world.nodes) world.chain.log events) where
   -- a coin that a wallet came to have is in the log
   tip-coin : (w c e : ℕ) → IsTip events w c e → IsCoin (log_of events) c
-  tip-coin w c e tip =
-      elim (or_cases (was_deposited tip.me e (coin_at (log_of events) c)) (list_any (is_bundle c e) (accepted events w))
-      tip.at) [
-        | inl own ↦ at (coin_at (log_of events) c) refl own
-        | inr taken ↦ kept.known w c e taken
-      ]
-    where
-      at : (o : Option CoinView) → coin_at (log_of events) c ≡ o → was_deposited tip.me e o ≡ true
-          → IsCoin (log_of events) c
-      at None none wrong = absurd (false≢true wrong)
-      at (Some made) some own = record { made = made; is = some }
+  tip-coin w c e tip = grind (arith, common_steps, or_cases, false≢true)
 
   one : (dig : List ℕ → List ℕ) (n : ℕ) (node : Node) (c e : ℕ) → slice_get world.nodes n ≡ Some node
       → ever_held events n c e ≡ true → count_by (is_on node.name c) (verdicts_in dig world events) ≡ 1
@@ -82,19 +71,7 @@ on-held : (dig : List ℕ → List ℕ) (run : Run) (world : World) (verdict : V
 on-held dig run world verdict n node c stay is_node is =
     let events : List Event = events_of run.entries in
     let held = held_tip-is events n verdict.coin is.tip stay (ap (held_tip events n) is.coin ∙ is.tip_is) in
-    record {
-      number = n;
-      node = node;
-      owner = is.me;
-      tip = is.tip;
-      is_node = is_node;
-      name = is.name;
-      is_owner = is.owner;
-      held = held.held;
-      greatest = held.most;
-      kind = is.kind ∙ ap (λ (k : ℕ). verdict_at (tests_by dig) (rules_of world.chain) events is.me n k is.tip)
-          (sym is.coin);
-    }
+    grind (arith, common_steps)
 
 pub verdicts_are_of_held_coins : VerdictsAreOfHeldCoins
 unfolding verdicts_in

@@ -1,18 +1,17 @@
 -- A reclaim, a leave and a migration keep a wallet's records what the events say.
-use Rattle.std.proofs.Common.{◌≡◌, ℕ, ◌^◌, ◌<◌, ◌==◌, ◌||◌, Bool, true, List, [], ◌∷◌, ◌++◌, map, Option, Some, None, Ok, Err, refl, sym, ap, ◌∙◌, subst, lit<}
+use Rattle.std.proofs.Common.{◌≡◌, ℕ, ◌^◌, ◌<◌, ◌==◌, ◌||◌, Bool, true, List, [], ◌∷◌, ◌++◌, Option, Some, None, Ok, refl, sym, ap, ◌∙◌, subst, lit<, arith}
 use Rattle.std.specs.Prelude.{Result, IfSome}
 use Rattle.std.specs.Ordering.{nat_cmp}
 use Rattle.std.specs.BTreeSet.{insert_key}
-use Rattle.leaf_journal.specs.Records.{messages_of}
+use Rattle.std.proofs.lemmas.Grind.{common_steps}
 use Rattle.leaf_journal.proofs.Binding.{marker-messages}
 use Rattle.plasma_tx.specs.declared.call.RootCall.{RootCall}
 use Rattle.plasma_tx.specs.Views.{blocks}
-use Rattle.wallet_core.specs.declared.notes.LeafRecord.{LeafRecord}
 use Rattle.wallet_core.specs.declared.notes.Notes.{Notes}
 use Rattle.node_rules.specs.declared.answers.Reclaimed.{Reclaimed}
 use Rattle.node_rules.specs.declared.refusal.WalletRefusal.{WalletRefusal}
-use Rattle.node_rules.specs.WalletRecords.{Reclaims, LeavesWith, note_text, notes_of, owner_of, coin_tip}
-use Rattle.node_rules.specs.Wallet.{WalletRecords, WalletEffect, who, noted, coin_state, leave_effect, reclaim_effect, migrate_effect}
+use Rattle.node_rules.specs.WalletRecords.{Reclaims, LeavesWith, note_text, coin_tip}
+use Rattle.node_rules.specs.Wallet.{WalletRecords, WalletEffect, noted, coin_state, leave_effect, reclaim_effect, migrate_effect}
 use Rattle.node_rules.specs.WalletOpening.{is_wallet}
 use Rattle.node_rules.specs.WalletLaws.{AddsNote}
 use Rattle.node_rules.specs.WalletCommandLaws.{with_more, after, AddsLeaving, AddsReclaimed, AddsMarker}
@@ -25,7 +24,6 @@ use Rattle.node_replies.specs.Orders.{on_leaving, on_reclaimed, on_migrated}
 use Rattle.world_rules.proofs.OrderEnds.{wallet_told}
 use Rattle.world_rules.specs.OrderEvents.{bundle_read, event_of}
 use Rattle.node_replies.proofs.ByteTexts.{Small, small-cons, small-append, small-number, small-short}
-use Rattle.world_rules.proofs.OperatorItems.{AreSmallRecords}
 use Rattle.world_rules.proofs.Said.{Said, told}
 use Rattle.node_replies.proofs.WalletEnds.{ReclaimEnds, Refused, Takes, reclaim_ends}
 use Rattle.world_rules.proofs.KeptWallet.{KeptWallet, with_note, noting}
@@ -50,9 +48,7 @@ module _ (dig : List ℕ → List ℕ) (s : Said) (log : List RootCall) (wallet 
       (record {
         is = is;
         who_same = adds.0;
-        now_is =
-            noted-grow dig wallet body (Reclaims taken.coin taken.tip taken.q) adds
-            ∙ state-reclaims (owner_of (who wallet)) taken.coin taken.tip taken.q (notes_of dig wallet.notes);
+        now_is = grind (arith, common_steps, noted-grow, state-reclaims);
         small =
             subst Small (sym text)
             (small-cons 5 (lit< tt)
@@ -98,17 +94,13 @@ module _ (dig : List ℕ → List ℕ) (s : Said) (log : List RootCall) (wallet 
   after-note : (note leaf : Option (List ℕ)) → leaf ≡ None
       → ((body : List ℕ) → note ≡ Some body → KeptWallet dig s log (with_note wallet body))
       → KeptWallet dig s log (record { notes = with_more note wallet.notes; leaves = with_more leaf wallet.leaves })
-  after-note None None none each = kept
-  after-note (Some body) None none each = each body refl
-  after-note some (Some leaf) wrong each = absurd (cc wrong)
+  after-note some leaf none each = grind (arith, common_steps)
 
   after-leaf : (note leaf : Option (List ℕ)) → note ≡ None
       → ((body : List ℕ) → leaf ≡ Some body
       → KeptWallet dig s log (record wallet { leaves = wallet.leaves ++ body ∷ [] }))
       → KeptWallet dig s log (record { notes = with_more note wallet.notes; leaves = with_more leaf wallet.leaves })
-  after-leaf None None none each = kept
-  after-leaf None (Some leaf) none each = each leaf refl
-  after-leaf (Some note) leaf wrong each = absurd (cc wrong)
+  after-leaf note leaf none each = grind (arith, common_steps)
 
   leaves-note : (coin tip : ℕ) (body : List ℕ) → body ≡ note_text (LeavesWith coin tip)
       → is_wallet dig (with_note wallet body) ≡ true → AddsNote dig wallet.notes (LeavesWith coin tip) body
@@ -119,9 +111,7 @@ module _ (dig : List ℕ → List ℕ) (s : Said) (log : List RootCall) (wallet 
       (record {
         is = is;
         who_same = adds.0;
-        now_is =
-            noted-grow dig wallet body (LeavesWith coin tip) adds
-            ∙ state-leaves (owner_of (who wallet)) coin tip (notes_of dig wallet.notes);
+        now_is = grind (arith, common_steps, noted-grow, state-leaves);
         small =
             subst Small (sym text) (small-cons 3 (lit< tt) (small-append (small-number coin) (small-number tip)));
         owner = refl;
@@ -134,8 +124,7 @@ module _ (dig : List ℕ → List ℕ) (s : Said) (log : List RootCall) (wallet 
   leaves-silent : (n coin : ℕ) (result : Result RootCall WalletRefusal)
       → told (wallet_told n (WalletOrder.Leave coin) on_leaving result) s ≡ s
   unfolding event_of
-  leaves-silent n coin (Ok call) = refl
-  leaves-silent n coin (Err why) = refl
+  leaves-silent n coin result = grind (arith, common_steps)
 
   pub leaves-kept : (n coin : ℕ) → coin < 2 ^ 64
       → KeptWallet dig
@@ -159,35 +148,19 @@ module _ (dig : List ℕ → List ℕ) (s : Said) (log : List RootCall) (wallet 
       (subst (λ (o : Option (List ℕ)). is_wallet dig
       (record { notes = with_more effect.note wallet.notes; leaves = with_more o wallet.leaves }) ≡ true) none
       (leaves_keep_the_role dig wallet log coin kept.is)) in
-      leaves-note coin left.0 body (sym left.2) role
-      (subst (λ (t : ℕ). AddsNote dig wallet.notes (LeavesWith coin t) body) same adds.2)))
+      grind (arith, common_steps, leaves-note)))
 
   -- ---- migrate
 
   migrates-silent : (n : ℕ) (result : Result (Unit {0}) WalletRefusal)
       → told (wallet_told n WalletOrder.Migrate on_migrated result) s ≡ s
   unfolding event_of
-  migrates-silent n (Ok done) = refl
-  migrates-silent n (Err why) = refl
+  migrates-silent n result = grind (arith, common_steps)
 
   migrates-leaf : (leaf : List ℕ) → AddsMarker wallet leaf
       → is_wallet dig (record wallet { leaves = wallet.leaves ++ leaf ∷ [] }) ≡ true
       → KeptWallet dig s log (record wallet { leaves = wallet.leaves ++ leaf ∷ [] })
-  migrates-leaf leaf adds is = record {
-    owner = kept.owner;
-    is = is;
-    is_owner = kept.is_owner;
-    tag = kept.tag;
-    notes = kept.notes;
-    messages =
-        subst AreSmallRecords
-        (sym (ap (λ (l : List ℕ). messages_of (wallet.leaves ++ l ∷ [])) adds.0
-        ∙ marker-messages wallet.leaves adds.1)) kept.messages;
-    bodies = ap (map (λ (leaf : LeafRecord). leaf.body)) adds.2 ∙ kept.bodies;
-    taken = kept.taken;
-    known = kept.known;
-    noted = kept.noted;
-  }
+  migrates-leaf leaf adds is = grind (arith, common_steps, marker-messages)
 
   pub migrates-kept : (n : ℕ)
       → KeptWallet dig (told (wallet_told n WalletOrder.Migrate on_migrated (migrate_effect wallet).answer) s) log

@@ -1,13 +1,14 @@
 -- A send, a reclaim, a leave and a migration keep a wallet's records what the events say.
-use Rattle.std.proofs.Common.{◌≡◌, ℕ, ◌^◌, ◌<◌, ◌==◌, ◌||◌, nat_lt, Bool, true, false, cond, List, [], ◌∷◌, ◌++◌, map, Option, refl, sym, ap, ◌∙◌, subst, Less, Equal, Greater}
+use Rattle.std.proofs.Common.{◌≡◌, ℕ, ◌^◌, ◌<◌, ◌==◌, ◌||◌, true, List, [], ◌∷◌, ◌++◌, map, Option, refl, sym, ap, ◌∙◌, subst, arith}
 use Rattle.std.specs.Prelude.{Result, IfSome, reverse}
 use Rattle.std.specs.List.{list_any}
-use Rattle.std.specs.Ordering.{nat_cmp, match_ordering}
+use Rattle.std.specs.Ordering.{nat_cmp}
 use Rattle.std.specs.BTreeSet.{insert_key}
 use Rattle.std.proofs.lemmas.Bool.{eqb-true}
 use Rattle.std.proofs.lemmas.List.{reverse-append, map-append}
 use Rattle.std.proofs.lemmas.List.Elements.{All-from_recursion}
-use Rattle.leaf_journal.specs.Records.{messages_of, binding_record}
+use Rattle.std.proofs.lemmas.Grind.{common_steps}
+use Rattle.leaf_journal.specs.Records.{binding_record}
 use Rattle.lms_sign.specs.Tree.{signature_of}
 use Rattle.plasma_tx.specs.declared.owner.Owner.{Owner}
 use Rattle.plasma_tx.specs.declared.body.Body.{Body}
@@ -34,7 +35,6 @@ use Rattle.node_replies.specs.Orders.{on_sent}
 use Rattle.world_rules.proofs.OrderEnds.{wallet_told}
 use Rattle.world_rules.specs.OrderEvents.{event_of}
 use Rattle.node_replies.proofs.ByteTexts.{Small, small-body}
-use Rattle.world_rules.proofs.OperatorItems.{AreSmallRecords}
 use Rattle.world_rules.proofs.Said.{Said, told}
 use Rattle.node_replies.proofs.WalletEnds.{SendEnds, Refused, Sends, send_ends}
 use Rattle.world_rules.proofs.KeptWallet.{KeptWallet, records-push}
@@ -58,36 +58,7 @@ module _ (q : ℕ) where
       → list_any (λ other. other == k) (insert_key nat_cmp keys q)
       ≡ ((q == k) || list_any (λ other. other == k) keys)
   among-key [] k = refl
-  among-key (key ∷ keys) k = by (nat_lt q key) (q == key) refl (among-key keys k)
-    where
-      has : List ℕ → Bool
-      has list = list_any (λ other. other == k) list
-
-      behind : (a b c : Bool) → (a || (b || c)) ≡ (b || (a || c))
-      behind true true c = refl
-      behind true false c = refl
-      behind false true c = refl
-      behind false false c = refl
-
-      same : (a c : Bool) → (a || c) ≡ (a || (a || c))
-      same true c = refl
-      same false c = refl
-
-      by : (less equal : Bool) → (q == key) ≡ equal
-          → list_any (λ other. other == k) (insert_key nat_cmp keys q)
-          ≡ ((q == k) || list_any (λ other. other == k) keys)
-          → list_any (λ other. other == k)
-          (match_ordering (cond less Less (cond equal Equal Greater)) (q ∷ key ∷ keys) (key ∷ keys)
-          (key ∷ insert_key nat_cmp keys q))
-          ≡ ((q == k) || ((key == k) || list_any (λ other. other == k) keys))
-      by true equal is rest = refl
-      by false true is rest =
-          let one : q ≡ key = eqb-true q key is in
-          same (key == k) (list_any (λ other. other == k) keys)
-          ∙ ap (λ (n : ℕ). (n == k) || ((key == k) || list_any (λ other. other == k) keys)) (sym one)
-      by false false is rest =
-          ap (λ (b : Bool). (key == k) || b) rest
-          ∙ behind (key == k) (q == k) (list_any (λ other. other == k) keys)
+  among-key (key ∷ keys) k = grind (arith, common_steps, among-key keys k, eqb-true)
 
 -- ---- the commands
 
@@ -130,9 +101,7 @@ module _ (dig : List ℕ → List ℕ) (s : Said) (log : List RootCall) (wallet 
       is_owner = kept.is_owner;
       tag = kept.tag;
       notes = kept.notes;
-      messages =
-          subst AreSmallRecords (sym binds.messages)
-          (records-push (messages_of wallet.leaves) (body_text body) kept.messages small);
+      messages = grind (arith, common_steps, records-push);
       bodies =
           ap (map (λ (leaf : LeafRecord). leaf.body)) binds.bodies
           ∙ map-append (λ (leaf : LeafRecord). leaf.body) (leaves_in wallet.leaves) (record { body = body } ∷ [])
