@@ -1,7 +1,8 @@
 -- What a wallet took back: no accepted opening of its coin shows it.
-use Rattle.std.proofs.Common.{◌≡◌, ◌⊎◌, ℕ, ◌<◌, ◌≤◌, ◌==◌, ◌&&◌, ◌||◌, Bool, true, false, if◌then◌else◌, List, [], ◌∷◌, length, Some, inl, inr, refl, sym, ap, ◌∙◌, subst, arith}
+use Rattle.std.proofs.Common.{◌≡◌, ◌⊎◌, ℕ, ◌<◌, ◌≤◌, ◌==◌, ◌&&◌, ◌||◌, Bool, true, false, if◌then◌else◌, List, [], ◌∷◌, length, Some, inl, inr, refl, sym, ap, ◌∙◌, subst, arith, rules}
 use Rattle.std.specs.List.{list_any}
 use Rattle.std.proofs.lemmas.Bool.{cases_Bool, cases_eq, eq-eqb, eqb-true, ne_eqb, leb-true, or_from, or_parts, true≢false}
+use Rattle.std.proofs.lemmas.Grind.{common_steps}
 use Rattle.plasma_tx.specs.declared.body.Body.{Body}
 use Rattle.plasma_tx.specs.declared.opening.RawOpening.{RawOpening}
 use Rattle.plasma_tx.specs.declared.signed_tx.SignedTx.{SignedTx}
@@ -68,20 +69,7 @@ parted-leaf : (taken : List ℕ) (bodies : List Body) (body : Body) → Has bodi
     → Has (not_taken taken bodies) body ⊎ ((q : ℕ) × Has taken q × (leaf_at q bodies ≡ Some body))
 unfolding not_taken leaf_at
 parted-leaf taken [] body h = absurd h
-parted-leaf taken (x ∷ xs) body (inl same) =
-    (elim (is_taken taken (length xs)) as (λ b. is_taken taken (length xs) ≡ b
-    → Has (if b then not_taken taken xs else x ∷ not_taken taken xs) body
-    ⊎ ((q : ℕ) × Has taken q × (leaf_at q (x ∷ xs) ≡ Some body))) [
-      | false ↦ λ off. inl (inl same)
-      | true ↦ λ on.
-          let r = any-some (λ (k : ℕ). k == length xs) taken on in
-          inr (
-            r.0,
-            r.1,
-            subst (λ b. (if b then Some x else leaf_at r.0 xs) ≡ Some body) (sym r.2)
-                (ap (λ (y : Body). Some y) same),
-          )
-    ]) refl
+parted-leaf taken (x ∷ xs) body (inl same) = grind (arith, common_steps, any-some)
 parted-leaf taken (x ∷ xs) body (inr h) =
     elim (parted-leaf taken xs body h) [
       | inl l ↦ inl (keep (is_taken taken (length xs)) l)
@@ -179,13 +167,7 @@ back-call tests call log os body k =
 
 pub back-more : (tests : Tests) (log : List RootCall) (os more : List RawOpening) (body : Body)
     → ((o : RawOpening) → Has os o → Has more o) → IsTakenBack tests log os body → IsTakenBack tests log more body
-back-more tests log os more body has k = record {
-  last = k.last;
-  last_is = k.last_is;
-  reached = k.reached;
-  covers = λ n root above under is.
-      absent-more tests log body.coin os more n has (k.covers n root above under is);
-}
+back-more tests log os more body has k = grind (arith, common_steps, absent-more)
 
 back-grow : (tests : Tests) (event : Event) (events : List Event) (body : Body)
     → IsTakenBack tests (log_of events) (seen events body.coin) body
@@ -265,13 +247,4 @@ IsParted tests log os c bodies standing = (body : Body) → Has bodies body → 
 
 pub parted : (tests : Tests) (rules : Rules) (events : List Event) (w c : ℕ) → IsLegal tests rules events
     → IsParted tests (log_of events) (seen events c) c (bound_by events w) (signed_away_by events w)
-parted tests rules events w c legal body h c_is =
-    elim (parted-leaf (taken_back events w) (bound_by events w) body h) [
-      | inl stands ↦ inl stands
-      | inr r ↦
-          let k = taken_fact tests rules events w r.0 legal r.1 in
-          let same : k.body ≡ body = some_same k.body body (sym k.leaf_is ∙ r.2) in
-          let shown : IsTakenBack tests (log_of events) (seen events body.coin) body =
-          subst (λ (x : Body). IsTakenBack tests (log_of events) (seen events x.coin) x) same k.shown in
-          inr (subst (λ n. IsTakenBack tests (log_of events) (seen events n) body) c_is shown)
-    ]
+parted tests rules events w c legal body h c_is = grind (arith, common_steps, parted-leaf, taken_fact, some_same)

@@ -1,8 +1,9 @@
 -- What a wallet's notes accept is shown by a bundle that events say it accepted: one of the same coin and tip, with the
 -- same links. Each command keeps it so.
-use Rattle.std.proofs.Common.{◌≡◌, ℕ, ◌^◌, ◌<◌, Bool, true, false, List, [], ◌∷◌, ◌++◌, Option, Some, None, Ok, inl, inr, refl, sym, ap, ◌∙◌, subst}
+use Rattle.std.proofs.Common.{◌≡◌, ℕ, ◌^◌, ◌<◌, Bool, true, false, List, [], ◌∷◌, ◌++◌, Option, Some, None, Ok, inl, inr, refl, sym, ap, ◌∙◌, subst, arith}
 use Rattle.std.specs.Prelude.{Result, IfSome}
 use Rattle.std.proofs.lemmas.Bool.{false≢true, true≢false}
+use Rattle.std.proofs.lemmas.Grind.{common_steps}
 use Rattle.plasma_tx.specs.declared.links.Links.{Links}
 use Rattle.plasma_tx.specs.declared.call.RootCall.{RootCall}
 use Rattle.plasma_tx.specs.Views.{blocks}
@@ -122,11 +123,7 @@ module _ (dig : List ℕ → List ℕ) (tag : List ℕ) (log : List RootCall) (f
   shown-same : (event : Event) (note : Option (List ℕ)) → (told event s).accepted ≡ s.accepted
       → IfSome note (λ body. accepted_in dig (wallet.notes ++ body ∷ []) ≡ accepted_in dig wallet.notes)
       → IsAfter event note
-  shown-same event None silent same =
-      subst (λ (bundles : List Bundle). AreShown tag bundles (accepted_in dig wallet.notes)) (sym silent) shown
-  shown-same event (Some body) silent same =
-      subst (λ (bundles : List Bundle). AreShown tag bundles (accepted_in dig (wallet.notes ++ body ∷ []))) (sym silent)
-      (subst (AreShown tag s.accepted) (sym same) shown)
+  shown-same event note silent same = grind (arith, common_steps, silent)
 
   -- only an accept is an event that accepts
   silent : (order : NodeOrder) (event : Event) (calls : List RootCall) → is_accept order ≡ false
@@ -149,11 +146,7 @@ module _ (dig : List ℕ → List ℕ) (tag : List ℕ) (log : List RootCall) (f
       (λ body. accepted_in dig (wallet.notes ++ body ∷ []) ≡ accepted_in dig wallet.notes)
       → IsAfter (event_of n (NodeOrder.Wallet order) (wallet_does dig log wallet order).response)
       (wallet_does dig log wallet order).note
-  other-shown order other same =
-      shown-same (event_of n (NodeOrder.Wallet order) (wallet_does dig log wallet order).response)
-      (wallet_does dig log wallet order).note
-      (silent (NodeOrder.Wallet order) _ _ other (order-ends dig log n (node_with wallet) (NodeOrder.Wallet order)))
-      same
+  other-shown order other same = grind (arith, common_steps, shown-same, silent, order-ends)
 
   pub wallet-shown : (order : WalletOrder) → IsFitOrder (NodeOrder.Wallet order)
       → IsAfter (event_of n (NodeOrder.Wallet order) (wallet_does dig log wallet order).response)
@@ -193,8 +186,4 @@ module _ (dig : List ℕ → List ℕ) (world : World) (n : ℕ) (node : Node) (
   pub accepts-shown : (order : NodeOrder) → has_order order node.role ≡ true → IsFitOrder order
       → ShownAfter (as_deed n order (node_does dig world.chain.log node order))
   unfolding event_of
-  accepts-shown (NodeOrder.Wallet order) at fit =
-      wallet-shown dig world.chain.tag world.chain.log feeds.few n (wallet_of node) s kept tag_is shown order fit
-  accepts-shown (NodeOrder.Watcher order) at fit = absurd (false≢true (sym (wallet-alone node.role role).0 ∙ at))
-  accepts-shown (NodeOrder.Operator order) at fit = absurd (false≢true (sym (wallet-alone node.role role).1 ∙ at))
-  accepts-shown NodeOrder.Open at fit = shown
+  accepts-shown order h1 fit = grind (arith, common_steps, wallet-shown, false≢true, wallet-alone)

@@ -1,11 +1,11 @@
 -- What a wallet holds at its top, as events say it, is what its records say that it holds or leaves with; and a bundle
 -- shows it.
-use Rattle.std.proofs.Common.{◌≡◌, ◌≢◌, ◌⊎◌, ℕ, ◌≤◌, ◌==◌, ◌&&◌, ◌||◌, Bool, true, false, if◌then◌else◌, List, [], ◌∷◌, map, filter, find, Option, Some, None, inl, inr, refl, sym, ap, ◌∙◌, subst}
+use Rattle.std.proofs.Common.{◌≡◌, ◌≢◌, ◌⊎◌, ℕ, ◌≤◌, ◌==◌, ◌&&◌, ◌||◌, Bool, true, false, if◌then◌else◌, List, [], ◌∷◌, find, Option, Some, None, inl, inr, refl, sym, ap, ◌∙◌, subst, arith}
 use Rattle.std.specs.Prelude.{unwrap_or}
 use Rattle.std.specs.List.{All, list_any}
-use Rattle.std.specs.Option.{option_map}
 use Rattle.std.proofs.lemmas.Bool.{eqb-true, eq-eqb, and_parts, and_from, or_cases, or_left, or_right, true≢false, false≢true}
 use Rattle.std.proofs.lemmas.List.Elements.{All-nil, All-cons, All-contains}
+use Rattle.std.proofs.lemmas.Grind.{common_steps}
 use Rattle.plasma_tx.specs.declared.owner.Owner.{Owner}
 use Rattle.plasma_tx.specs.declared.call.RootCall.{RootCall}
 use Rattle.plasma_tx.specs.declared.views.CoinView.{CoinView}
@@ -14,7 +14,7 @@ use Rattle.coin_history.specs.declared.bundle.Bundle.{Bundle}
 use Rattle.wallet_core.specs.declared.notes.CoinTip.{CoinTip}
 use Rattle.wallet_core.specs.declared.notes.Notes.{Notes}
 use Rattle.wallet_core.specs.declared.coin_state.CoinState.TheVariants.{Leaving, Held}
-use Rattle.wallet_core.specs.State.{is_owner, own_deposit, noted_tips, tips_of, is_noted}
+use Rattle.wallet_core.specs.State.{own_deposit, noted_tips, tips_of, is_noted}
 use Rattle.wallet_core.specs.Laws.{IsTip}
 use Rattle.wallet_core.proofs.StateLaws.{kept_coins_are_held, held_coins_are_kept}
 use Rattle.node_rules.specs.Kept.{kept_links}
@@ -55,46 +55,18 @@ find-none {X} p (x ∷ xs) none =
 
 own-listed : (me : Owner) (e : ℕ) (made : Option CoinView) → was_deposited me e made ≡ true
     → Has (own_deposit me made) e
-own-listed me e None is = absurd (false≢true is)
-own-listed me e (Some made) is =
-    let parts = and_parts (made.deposit == e) (is_owner made.owner me) is in
-    subst (λ (b : Bool). Has (if b then made.deposit ∷ [] else []) e) (sym parts.1)
-    (inl (eqb-true made.deposit e parts.0))
+own-listed me e made is = grind (arith, common_steps, false≢true, and_parts, eqb-true)
 
 listed-own : (me : Owner) (e : ℕ) (made : Option CoinView) → Has (own_deposit me made) e
     → was_deposited me e made ≡ true
-listed-own me e None has = absurd has
-listed-own me e (Some made) has =
-    (elim (is_owner made.owner me) as (λ b. Has (if b then made.deposit ∷ [] else []) e
-    → ((made.deposit == e) && b) ≡ true) [
-      | true ↦ λ there. elim there [
-        | inl same ↦ and_from (made.deposit == e) true (eq-eqb made.deposit e same) refl
-        | inr none ↦ absurd none
-      ]
-      | false ↦ λ none. absurd none
-    ]) has
+listed-own me e made has = grind (arith, common_steps, and_from, eq-eqb)
 
 noted-listed : (c e : ℕ) (notes : List CoinTip) → is_noted c e notes ≡ true → Has (noted_tips c notes) e
 noted-listed c e [] is = absurd (false≢true is)
-noted-listed c e (note ∷ notes) is = at (note.coin == c) is (noted-listed c e notes)
-  where
-    at : (b : Bool) → ((b && (note.tip == e)) || is_noted c e notes) ≡ true
-        → (is_noted c e notes ≡ true → Has (noted_tips c notes) e)
-        → Has (map (λ (one : CoinTip). one.tip)
-        (if b then note ∷ filter (λ one. one.coin == c) notes else filter (λ one. one.coin == c) notes)) e
-    at true is rest = elim (or_cases (note.tip == e) (is_noted c e notes) is) [
-      | inl here ↦ inl (eqb-true note.tip e here)
-      | inr later ↦ inr (rest later)
-    ]
-    at false is rest = rest is
+noted-listed c e (note ∷ notes) is = grind (arith, common_steps, noted-listed c e notes, or_cases, eqb-true)
 
 listed-noted : (c e : ℕ) (notes : List CoinTip) → Has (noted_tips c notes) e → is_noted c e notes ≡ true
-listed-noted c e notes has =
-    let named : CoinTip → Bool = λ one. one.coin == c in
-    let one = has-map (λ (note : CoinTip). note.tip) (filter named notes) e has in
-    let old = has-filter named notes one.0 one.1 in
-    any-has (λ (note : CoinTip). (note.coin == c) && (note.tip == e)) notes one.0 old.0
-    (and_from (one.0.coin == c) (one.0.tip == e) old.1 (eq-eqb one.0.tip e one.2))
+listed-noted c e notes has = grind (arith, common_steps, has-map, has-filter, any-has, and_from, eq-eqb)
 
 module _ (dig : List ℕ → List ℕ) (s : Said) (log : List RootCall) (wallet : WalletRecords)
     (kept : KeptWallet dig s log wallet) (c e : ℕ) where
@@ -118,37 +90,17 @@ module _ (dig : List ℕ → List ℕ) (s : Said) (log : List RootCall) (wallet 
       (own-listed me e (coin_at log c) own))
 
   came-tip : came ≡ true → Has (tips_of notes log c) e
-  came-tip is =
-      elim (or_cases (was_deposited me e (coin_at log c)) (list_any (is_bundle c e) s.accepted) is) [
-        | inl own ↦ own-tip own
-        | inr among ↦
-            let known = kept.known c e among in
-            elim (or_cases (was_deposited me e (Some known.made)) (is_noted c e notes.accepted) known.known) [
-              | inl own ↦ own-tip (ap (was_deposited me e) known.made_is ∙ own)
-              | inr noted ↦
-                  has-right (own_deposit notes.me (coin_at log c)) (noted_tips c notes.accepted) e
-                  (noted-listed c e notes.accepted noted)
-            ]
-      ]
+  came-tip is = grind (arith, common_steps, or_cases, own-tip, has-right, noted-listed)
 
   came-there : came ≡ true → coin_at log c ≢ None
-  came-there is none =
-      elim (or_cases (was_deposited me e (coin_at log c)) (list_any (is_bundle c e) s.accepted) is) [
-        | inl own ↦ false≢true (sym (ap (was_deposited me e) none) ∙ own)
-        | inr among ↦ let known = kept.known c e among in cc (sym known.made_is ∙ none)
-      ]
+  came-there is none = grind (arith, common_steps, or_cases, false≢true)
 
   tip-own : Has (own_deposit notes.me (coin_at log c)) e → was_deposited me e (coin_at log c) ≡ true
   tip-own has =
       listed-own me e (coin_at log c) (subst (λ (o : Owner). Has (own_deposit o (coin_at log c)) e) me-same has)
 
   tip-came : Has (tips_of notes log c) e → came ≡ true
-  tip-came has = elim (has-cases (own_deposit notes.me (coin_at log c)) (noted_tips c notes.accepted) e has) [
-    | inl own ↦ or_left (was_deposited me e (coin_at log c)) (list_any (is_bundle c e) s.accepted) (tip-own own)
-    | inr noted ↦
-        or_right (was_deposited me e (coin_at log c)) (list_any (is_bundle c e) s.accepted)
-        (kept.noted c e (listed-noted c e notes.accepted noted))
-  ]
+  tip-came has = grind (arith, common_steps, has-cases, or_left, tip-own, or_right, listed-noted)
 
   -- a tip of which no note accepts anything is the wallet's own deposit
   bare-own : find (is_of c e) (accepted_in dig wallet.notes) ≡ None → Has (tips_of notes log c) e
@@ -168,13 +120,7 @@ module _ (dig : List ℕ → List ℕ) (s : Said) (log : List RootCall) (wallet 
 -- a bundle that shows a kept coin has its links
 links-same : (tag : List ℕ) (log : List RootCall) (bundles : List Bundle) (kept : Bundle)
     → (by : IsShown tag bundles kept) → kept_links tag log by.bundle ≡ kept_links tag log kept
-links-same tag log bundles kept by = λ i.
-    option_map (λ (made : CoinView). record {
-      coin = by.coin i;
-      deposit = made.deposit;
-      owner = made.owner;
-      spends = by.links i;
-    }) (coin_at log (by.coin i))
+links-same tag log bundles kept by = grind (arith, common_steps)
 
 -- a bundle shows the coin at the tip, and has the links of what the wallet keeps
 pub record IsShownAt (dig : List ℕ → List ℕ) (events : List Event) (tag : List ℕ) (n : ℕ) (wallet : WalletRecords)

@@ -1,19 +1,18 @@
 -- What is attended is looked after.
-use Rattle.std.proofs.Common.{◌≡◌, ℕ, ◌+◌, ◌==◌, ◌&&◌, ◌||◌, not, Bool, true, false, if◌then◌else◌, List, [], ◌∷◌, inl, inr, refl, sym, ap, ◌∙◌}
+use Rattle.std.proofs.Common.{◌≡◌, ℕ, ◌==◌, ◌&&◌, ◌||◌, not, Bool, true, false, if◌then◌else◌, List, [], ◌∷◌, refl, sym, ap, ◌∙◌, arith}
 use Rattle.std.specs.List.{list_any}
 use Rattle.std.proofs.lemmas.Bool.{eqb-true, eq-eqb, and_parts, and_from, or_parts, or_cases, or_left, or_right, not-true, not_from_false, true≢false, false≢true, false_from_ne_true}
+use Rattle.std.proofs.lemmas.Grind.{common_steps}
 use Rattle.plasma_tx.specs.declared.call.RootCall.{RootCall}
-use Rattle.plasma_tx.specs.declared.call.RootCall.TheVariants.{Tick, After, Between, Before, Respond}
-use Rattle.plasma_tx.specs.Views.{now, Exit, exits}
-use Rattle.plasma_tx.specs.Laws.{is_start, is_respond}
-use Rattle.plasma_tx.specs.declared.rules.TheConstants.{CHALLENGE_WINDOW}
+use Rattle.plasma_tx.specs.declared.call.RootCall.TheVariants.{Tick, Respond}
+use Rattle.plasma_tx.specs.Laws.{is_respond}
 use Rattle.watch_duty.proofs.Members.{any-has}
-use Rattle.world_rules.specs.Events.{Event, Joins, Watches, log_of, is_bundle, guarded_by, watchers, is_command_of, offered}
-use Rattle.world_rules.specs.Safety.{holds, is_met, meets_challenge, meets_exit, meets_deadline, offers_none, is_watch, is_joined, is_quiet, is_watched_by, is_guarded, needs_guardian, goes_unattended, is_attended}
-use Rattle.world_laws.specs.Looked.{is_before, is_on_exit, is_on_coin, fulfils, are_fulfilled, is_guardian, has_look, goes_unseen, is_looked_after, AttendedCoinsAreLookedAfter}
+use Rattle.world_rules.specs.Events.{Event, Joins, Watches, log_of, is_bundle, guarded_by, is_command_of, offered}
+use Rattle.world_rules.specs.Safety.{holds, meets_deadline, offers_none, is_watch, is_joined, is_quiet, is_guarded, needs_guardian, goes_unattended, is_attended}
+use Rattle.world_laws.specs.Looked.{is_on_exit, is_on_coin, fulfils, are_fulfilled, is_guardian, has_look, goes_unseen, is_looked_after, AttendedCoinsAreLookedAfter}
 use Rattle.world_laws.proofs.Lists.{and-seen, any-some}
 use Rattle.world_laws.proofs.Nodes.{same-node}
-use Rattle.world_laws.proofs.Unseen.{EndsUnseen, OfExit, OfChallenge, IsUnseen, is_unseen}
+use Rattle.world_laws.proofs.Unseen.{EndsUnseen, IsUnseen, is_unseen}
 
 -- ---- calls of the coin
 
@@ -22,11 +21,7 @@ abbrev pub AsksOf : ℕ → (RootCall → Bool) → Type 0
 AsksOf c is_asked = (call : RootCall) → is_asked call ≡ true → is_on_coin c call ≡ true
 
 pub exit-asks : (c b : ℕ) → AsksOf c (is_on_exit c b)
-exit-asks c b (After account coin exit spend) is = (and_parts (coin == c) (exit == b) is).0
-exit-asks c b (Between account coin exit spend) is = (and_parts (coin == c) (exit == b) is).0
-exit-asks c b (Before account coin exit shown) is = (and_parts (coin == c) (exit == b) is).0
-exit-asks c b (Respond account coin exit challenged spend) is = (and_parts (coin == c) (exit == b) is).0
-exit-asks c b call is = absurd (false≢true is)
+exit-asks c b call is = grind (arith, common_steps, and_parts, false≢true)
 
 pub respond-asks : (c e n : ℕ) → AsksOf c (is_respond c e n)
 respond-asks c e n (Respond account coin exit challenged spend) is =
@@ -83,40 +78,18 @@ guarded-looked : (opens is_asked : RootCall → Bool) (events : List Event) (w c
     → is_guarded events w c e ≡ true → has_look opens is_asked [] events w c e ≡ true
 unfolding is_guarded
 guarded-looked opens is_asked events w c e asks guarded =
-    elim (or_cases (is_quiet events w c) (list_any (is_watched_by events c e) (watchers events)) guarded) [
-      | inl own ↦ quiet-looked opens is_asked w c e asks events w own
-          (or_left (w == w) (list_any (is_bundle c e) (guarded_by events w)) (eq-eqb w w refl))
-      | inr some ↦
-          let g = any-some (is_watched_by events c e) (watchers events) some in
-          let parts = and_parts (is_quiet events g.0 c) (list_any (is_bundle c e) (guarded_by events g.0)) g.2 in
-          quiet-looked opens is_asked w c e asks events g.0 parts.0
-          (or_right (g.0 == w) (list_any (is_bundle c e) (guarded_by events g.0)) parts.1)
-    ]
+    grind (arith, common_steps, or_cases, quiet-looked, or_left, eq-eqb, any-some, and_parts, or_right)
 
 -- ---- ticks
 
 met-deadline : (events : List Event) (w c e time : ℕ) → EndsUnseen events w c e time
     → meets_deadline (log_of events) c (Joins (Tick time)) ≡ true
-met-deadline events w c e time (OfExit x there c_is met unseen) =
-    any-has (λ (y : Exit). (y.coin == c) && meets_exit (now (log_of events)) time y) (exits (log_of events)) x there
-    (and_from (x.coin == c) (meets_exit (now (log_of events)) time x) (eq-eqb x.coin c c_is)
-    (or_left (is_met (now (log_of events)) time (x.start + CHALLENGE_WINDOW))
-    (list_any (meets_challenge (now (log_of events)) time) x.challenges) met))
-met-deadline events w c e time (OfChallenge x there c_is at_tip ch has met unseen) =
-    any-has (λ (y : Exit). (y.coin == c) && meets_exit (now (log_of events)) time y) (exits (log_of events)) x there
-    (and_from (x.coin == c) (meets_exit (now (log_of events)) time x) (eq-eqb x.coin c c_is)
-    (or_right (is_met (now (log_of events)) time (x.start + CHALLENGE_WINDOW))
-    (list_any (meets_challenge (now (log_of events)) time) x.challenges)
-    (any-has (meets_challenge (now (log_of events)) time) x.challenges ch has met)))
+met-deadline events w c e time h5 = grind (arith, common_steps, any-has, and_from, eq-eqb, or_left, or_right)
 
 guarded-none : (events : List Event) (w c e time : ℕ) → is_guarded events w c e ≡ true
     → EndsUnseen events w c e time → ⊥
-guarded-none events w c e time guarded (OfExit x there c_is met unseen) =
-    true≢false (sym (guarded-looked (is_start c x.block) (is_on_exit c x.block) events w c e
-    (exit-asks c x.block) guarded) ∙ unseen)
-guarded-none events w c e time guarded (OfChallenge x there c_is at_tip ch has met unseen) =
-    true≢false (sym (guarded-looked (is_before c e ch.block) (is_respond c e ch.block) events w c e
-    (respond-asks c e ch.block) guarded) ∙ unseen)
+guarded-none events w c e time guarded h6 =
+    grind (arith, common_steps, true≢false, guarded-looked, exit-asks, respond-asks)
 
 pub attended_are_looked_after : AttendedCoinsAreLookedAfter
 unfolding is_attended is_looked_after

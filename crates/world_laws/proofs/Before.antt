@@ -1,7 +1,8 @@
 -- What was before an event: no exhibit, and the coin held by the same owner, or no exit of it stands after the event.
-use Rattle.std.proofs.Common.{◌≡◌, ◌≢◌, ◌⊎◌, ℕ, ◌+◌, ◌==◌, ◌&&◌, true, false, if◌then◌else◌, List, [], ◌∷◌, ◌++◌, Option, Some, None, inl, inr, refl, sym, ap, ◌∙◌, subst, arith, filter}
+use Rattle.std.proofs.Common.{◌≡◌, ◌≢◌, ◌⊎◌, ℕ, ◌+◌, ◌==◌, ◌&&◌, true, false, if◌then◌else◌, List, [], ◌∷◌, ◌++◌, Some, inl, inr, refl, sym, ap, ◌∙◌, subst, arith, filter, rules}
 use Rattle.std.specs.List.{list_any, flat_map}
 use Rattle.std.proofs.lemmas.Bool.{cases_eq, ne_eqb, eq-eqb, eqb-true, and_parts, or_parts, or_cases, or_left, or_right, true≢false, false≢true, false_from_ne_true}
+use Rattle.std.proofs.lemmas.Grind.{common_steps}
 use Rattle.plasma_tx.specs.declared.owner.Owner.{Owner}
 use Rattle.plasma_tx.specs.declared.body.Body.{Body}
 use Rattle.plasma_tx.specs.declared.opening.RawOpening.{RawOpening}
@@ -13,7 +14,6 @@ use Rattle.plasma_tx.specs.Views.{coins, coin_at, new_coin, Exit, exits, exit_at
 use Rattle.plasma_tx.specs.Shown.{Tests, Rules, tests_by}
 use Rattle.plasma_tx.proofs.Bounds.{coin_at-le}
 use Rattle.watch_duty.proofs.Members.{Has}
-use Rattle.wallet_core.specs.State.{is_owner}
 use Rattle.world_rules.specs.Laws.{IsDigest}
 use Rattle.world_rules.specs.Events.{Event, Declares, Joins, Accepts, Binds, TakesBack, log_of, wallet_owner, accepted, bound_by, taken_back, not_taken, leaf_at, is_sent_from, is_bundle}
 use Rattle.world_rules.specs.Exhibits.{openings_of, seen, strings_in, strings_of, has_clash, forges_one, is_forged}
@@ -145,15 +145,8 @@ held_before tests rules (Declares v me) events w c e legal h =
     new-one : v ≡ w → me ≡ h.me
         → (was_deposited h.me e (coin_at (log_of events) c) ≡ true)
         ⊎ (list_any (is_bundle c e) (accepted events w) ≡ true) → ⊥
-    new-one same mine (inl deposited) = by_coin (coin_at (log_of events) c) refl deposited
-      where
-        by_coin : (o : Option CoinView) → coin_at (log_of events) c ≡ o → was_deposited h.me e o ≡ true → ⊥
-        by_coin None is was = false≢true was
-        by_coin (Some made) is was =
-            let owner = owner-is made.owner h.me (and_parts (made.deposit == e) (is_owner made.owner h.me) was).1 in
-            let account : made.owner.account ≡ me.account = ap (λ (x : Owner). x.account) (owner ∙ sym mine) in
-            true≢false (sym (deposit-caller (log_of events) c made is)
-            ∙ ap (λ a. list_any (deposits_by a) (log_of events)) account ∙ legal.0.no_deposit)
+    new-one same mine (inl deposited) =
+        grind (arith, common_steps, false≢true, owner-is, and_parts, true≢false, deposit-caller)
     new-one same mine (inr was) =
         let r = any-some (is_bundle c e) (accepted events w) was in
         let n = is_noted tests rules events w r.0 legal.1 r.1 in
@@ -254,12 +247,7 @@ held_before tests rules (TakesBack v q bundle) events w c e legal h =
     -- the leaf is of another coin
     named : bundle.coin ≢ c → v ≡ w → (body : Body) → leaf_at q (bound_by events w) ≡ Some body
         → names c e body ≡ false
-    named other same body is =
-        let r : legal.0.body ≡ body =
-        some_same legal.0.body body (sym legal.0.leaf_is ∙ ap (λ x. leaf_at q (bound_by events x)) same ∙ is) in
-        false_from_ne_true ((body.coin == c) && (body.parent == e)) (λ on. other (sym legal.0.coin_is
-        ∙ ap (λ (x : Body). x.coin) r
-        ∙ eqb-true body.coin c (and_parts (body.coin == c) (body.parent == e) on).0))
+    named other same body is = grind (arith, common_steps, some_same, false_from_ne_true, eqb-true, and_parts)
 held_before tests rules event events w c e legal h = inl (
   record {
     me = h.me;

@@ -1,11 +1,11 @@
 -- Who holds a coin, the bundles that were accepted, and that no spend of a held tip was.
-use Rattle.std.proofs.Common.{◌≡◌, ◌≢◌, ◌⊎◌, ℕ, ◌<◌, ◌==◌, ◌&&◌, ◌||◌, not, Bool, true, false, if◌then◌else◌, List, [], ◌∷◌, Option, Some, None, inl, inr, refl, sym, ap, ◌∙◌, subst, arith, filter}
+use Rattle.std.proofs.Common.{◌≡◌, ◌≢◌, ◌⊎◌, ℕ, ◌<◌, ◌==◌, not, true, false, if◌then◌else◌, List, [], ◌∷◌, Option, Some, inl, inr, refl, sym, ap, ◌∙◌, subst, arith, filter, rules}
 use Rattle.std.specs.Prelude.{is_some, nat_eq}
 use Rattle.std.specs.List.{list_any}
 use Rattle.std.specs.Option.{option_eq}
-use Rattle.std.specs.Str.{bytes_eq}
 use Rattle.std.proofs.lemmas.Bool.{cases_eq, ne_eqb, eq-eqb, eqb-true, and_parts, and_from, and_cases, or_parts, or_cases, not-true, true≢false, false≢true}
 use Rattle.std.proofs.lemmas.Slice.Eq.{bytes_eq-Decides}
+use Rattle.std.proofs.lemmas.Grind.{common_steps}
 use Rattle.plasma_tx.specs.declared.owner.Owner.{Owner}
 use Rattle.plasma_tx.specs.declared.body.Body.{Body}
 use Rattle.plasma_tx.specs.declared.opening.RawOpening.{RawOpening}
@@ -21,9 +21,9 @@ use Rattle.coin_history.specs.History.{transfer_of, IsHistory}
 use Rattle.coin_history.proofs.HistoryGrow.{histories_stay}
 use Rattle.watch_duty.proofs.Members.{Has, has-left, any-has, has-filter}
 use Rattle.wallet_core.specs.State.{is_owner}
-use Rattle.world_rules.specs.Events.{Event, Declares, Joins, Accepts, Guards, Releases, Binds, log_of, wallet_owner, accepted, bound_by, signed_away_by, is_sent_from, is_bundle, guarded_by}
-use Rattle.world_rules.specs.Exhibits.{openings_of, seen, is_same_body, forges_transfer, forges, forges_one, is_forged}
-use Rattle.world_rules.specs.Safety.{was_deposited, holds_with, holds}
+use Rattle.world_rules.specs.Events.{Event, Declares, Joins, Accepts, Guards, Releases, log_of, wallet_owner, accepted, bound_by, signed_away_by, is_sent_from, is_bundle, guarded_by}
+use Rattle.world_rules.specs.Exhibits.{openings_of, seen, is_same_body, forges_one, is_forged}
+use Rattle.world_rules.specs.Safety.{was_deposited, holds}
 use Rattle.world_laws.specs.Legal.{IsLegal}
 use Rattle.world_laws.proofs.Lists.{some_same, none_some, any-none, any-some}
 use Rattle.world_laws.proofs.Clash.{IsOpened, HasOneLeaf}
@@ -36,12 +36,7 @@ abbrev pub SignsBy : Tests → Type 0
 SignsBy tests = (tx : SignedTx) (owner : Owner) → tests.is_signed tx owner ≡ true → is_signed_by tx owner ≡ true
 
 pub owner-is : (one other : Owner) → is_owner one other ≡ true → one ≡ other
-owner-is one other is =
-    let parts = and_parts (one.account == other.account) (bytes_eq one.key other.key) is in
-    λ i. record {
-      account = eqb-true one.account other.account parts.0 i;
-      key = (bytes_eq-Decides one.key other.key).0 parts.1 i;
-    }
+owner-is one other is = grind (arith, common_steps, and_parts, eqb-true, bytes_eq-Decides)
 
 -- ---- the owner and the bodies stay
 
@@ -49,22 +44,12 @@ pub owner-stays : (tests : Tests) (rules : Rules) (event : Event) (events : List
     → IsLegal tests rules (event ∷ events) → wallet_owner events w ≡ Some me
     → wallet_owner (event ∷ events) w ≡ Some me
 unfolding IsLegal wallet_owner
-owner-stays tests rules (Declares v other) events w me legal is =
-    elim (cases_eq v w) [
-      | inl same ↦ absurd (none_some me (sym legal.0.new ∙ ap (wallet_owner events) same ∙ is))
-      | inr apart ↦ simp (ne_eqb v w apart) is
-    ]
-owner-stays tests rules event events w me legal is = is
+owner-stays tests rules event events w me legal is = grind (arith, common_steps, cases_eq, none_some, ne_eqb)
 
 bound-grow : (event : Event) (events : List Event) (w : ℕ) (body : Body) → Has (bound_by events w) body
     → Has (bound_by (event ∷ events) w) body
 unfolding bound_by
-bound-grow (Binds v new) events w body h = either (v == w)
-  where
-    either : (b : Bool) → Has (if b then new ∷ bound_by events w else bound_by events w) body
-    either true = inr h
-    either false = h
-bound-grow event events w body h = h
+bound-grow event events w body h = grind (arith, common_steps)
 
 -- an opening of the coin that was accepted since the wallet was declared
 unfoldable pub IsSince : List Event → ℕ → ℕ → RawOpening → Type 0
@@ -74,12 +59,7 @@ IsSince (event ∷ events) w c o =
 
 pub owner-some : (events : List Event) (w : ℕ) → is_some (wallet_owner events w) ≡ true
     → (me : Owner) × (wallet_owner events w ≡ Some me)
-owner-some events w is = by_owner (wallet_owner events w) refl is
-  where
-    by_owner : (o : Option Owner) → wallet_owner events w ≡ o → is_some o ≡ true
-        → (me : Owner) × (wallet_owner events w ≡ Some me)
-    by_owner None e s = absurd (false≢true s)
-    by_owner (Some me) e s = (me, e)
+owner-some events w is = grind (arith, common_steps, false≢true)
 
 module _ (tests : Tests) (rules : Rules) where
   since-declared : (events : List Event) (w c : ℕ) (o : RawOpening) → IsLegal tests rules events
@@ -103,18 +83,7 @@ pub line_bound : (rules : Rules) (c : ℕ) (me : Owner) (bodies : List Body) (os
     → forges_one rules.tag (Some me) bodies c os ≡ false → (o : RawOpening) (tx : SignedTx) → Has os o
     → transfer_of rules c o ≡ Some tx → is_signed_by tx me ≡ true → IsBoundTo bodies tx
 line_bound rules c me bodies os none o tx h is signed =
-    let off : forges_transfer me bodies (Some tx) ≡ false =
-    ap (forges_transfer me bodies) (sym is) ∙ any-none (forges rules.tag c me bodies) os o none h in
-    elim (and_cases (is_signed_by tx me) (not (list_any (is_same_body tx.body) bodies)) off) [
-      | inl unsigned ↦ absurd (true≢false (sym signed ∙ unsigned))
-      | inr there ↦
-          let r = any-some (is_same_body tx.body) bodies (un_not (list_any (is_same_body tx.body) bodies) there) in
-          record { body = r.0; has = r.1; same = r.2 }
-    ]
-  where
-    un_not : (b : Bool) → not b ≡ false → b ≡ true
-    un_not true e = refl
-    un_not false e = absurd (true≢false e)
+    grind (arith, common_steps, any-none, and_cases, true≢false, any-some)
 
 pub bound_since : (tests : Tests) (rules : Rules) (events : List Event) (w c : ℕ) (me : Owner)
     → IsLegal tests rules events → wallet_owner events w ≡ Some me → is_forged rules.tag events w c ≡ false
@@ -137,28 +106,13 @@ bound_since tests rules (event ∷ events) w c me legal me_is none o tx (inr lat
     record { body = b.body; has = bound-grow event events w b.body b.has; same = b.same }
 
 last-is : (one other : Option ℕ) → option_eq nat_eq one other ≡ true → one ≡ other
-last-is None None is = refl
-last-is None (Some other) is = absurd (false≢true is)
-last-is (Some one) None is = absurd (false≢true is)
-last-is (Some one) (Some other) is = ap (λ (n : ℕ). Some n) (eqb-true one other is)
+last-is one other is = grind (arith, common_steps, false≢true, eqb-true)
 
 -- the bound body names the coin and the parent, and has the transfer's last block
 bound-facts : (rules : Rules) (c e : ℕ) (bodies : List Body) (o : RawOpening) (tx : SignedTx)
     → transfer_of rules c o ≡ Some tx → tx.body.parent ≡ e → (b : IsBoundTo bodies tx)
     → (b.body.coin ≡ c) × (b.body.parent ≡ e) × (tx.body.last ≡ b.body.last)
-bound-facts rules c e bodies o tx is parent b =
-    let tag : Bool = bytes_eq tx.body.tag b.body.tag in
-    let coin : Bool = tx.body.coin == b.body.coin in
-    let from : Bool = tx.body.parent == b.body.parent in
-    let to : Bool = is_owner tx.body.to b.body.to in
-    let whole = and_parts (tag && coin && from && to) (option_eq nat_eq tx.body.last b.body.last) b.same in
-    let parts = and_parts (tag && coin && from) to whole.0 in
-    let more = and_parts (tag && coin) from parts.0 in
-    let first = and_parts tag coin more.0 in (
-      sym (eqb-true tx.body.coin b.body.coin first.1) ∙ tx-coin rules c o tx is,
-      sym (eqb-true tx.body.parent b.body.parent more.1) ∙ parent,
-      last-is tx.body.last b.body.last whole.1,
-    )
+bound-facts rules c e bodies o tx is parent b = grind (arith, common_steps, and_parts, eqb-true, tx-coin, last-is)
 
 -- No opening after e that opens its root shows a spend of e over a bound body, where each body of the coin either
 -- stands, and none that stands spends e, or is taken back on absences among the openings. It is the one place that
@@ -193,25 +147,7 @@ pub record Holding (events : List Event) (w c e : ℕ) : Type 0 where
 
 pub holding : (events : List Event) (w c e : ℕ) → holds events w c e ≡ true → Holding events w c e
 unfolding holds
-holding events w c e is = by_owner (wallet_owner events w) refl is
-  where
-    by_owner : (o : Option Owner) → wallet_owner events w ≡ o
-        → holds_with (log_of events) o (signed_away_by events w) (accepted events w) c e ≡ true
-        → Holding events w c e
-    by_owner None o_is h = absurd (false≢true h)
-    by_owner (Some me) o_is h =
-        let parts = and_parts ((was_deposited me e (coin_at (log_of events) c)
-        || list_any (is_bundle c e) (accepted events w)) && not (is_sent_from (signed_away_by events w) c e))
-        (not (is_withdrawn (log_of events) c)) h in
-        let more = and_parts (was_deposited me e (coin_at (log_of events) c)
-        || list_any (is_bundle c e) (accepted events w)) (not (is_sent_from (signed_away_by events w) c e)) parts.0 in
-        record {
-          me = me;
-          me_is = o_is;
-          source = or_cases _ _ more.0;
-          not_away = not-true _ more.1;
-          not_withdrawn = not-true _ parts.1;
-        }
+holding events w c e is = grind (arith, common_steps, false≢true, and_parts, or_cases, not-true)
 
 -- ---- accepted bundles
 
@@ -234,28 +170,12 @@ noted-grow : (tests : Tests) (rules : Rules) (event : Event) (events : List Even
     → IsLegal tests rules (event ∷ events) → IsNoted tests rules events w b
     → IsNoted tests rules (event ∷ events) w b
 unfolding IsSince
-noted-grow tests rules event events w b legal n = record {
-  me = n.me;
-  me_is = owner-stays tests rules event events w n.me legal n.me_is;
-  links = n.links;
-  history = history-stays tests rules event events b n.links n.history;
-  mine = n.mine;
-  is_seen = λ o h. seen-grow event events b.coin o (n.is_seen o h);
-  is_since = λ o h. inr (n.is_since o h);
-}
+noted-grow tests rules event events w b legal n = grind (arith, common_steps, owner-stays, history-stays, seen-grow)
 
 noted-new : (tests : Tests) (rules : Rules) (events : List Event) (w : ℕ) (b : Bundle)
     → IsLegal tests rules (Accepts w b ∷ events) → IsNoted tests rules (Accepts w b ∷ events) w b
 unfolding IsSince IsLegal log_of seen openings_of wallet_owner
-noted-new tests rules events w b legal = record {
-  me = legal.0.me;
-  me_is = legal.0.me_is;
-  links = legal.0.links;
-  history = legal.0.history;
-  mine = legal.0.mine;
-  is_seen = λ o h. has-left _ (seen events b.coin) o (simp (eq-eqb b.coin b.coin refl) h);
-  is_since = λ o h. inl (ap is_some legal.0.me_is, simp (eq-eqb b.coin b.coin refl) h);
-}
+noted-new tests rules events w b legal = grind (arith, common_steps, has-left, eq-eqb)
 
 pub is_noted : (tests : Tests) (rules : Rules) (events : List Event) (w : ℕ) (b : Bundle)
     → IsLegal tests rules events → Has (accepted events w) b → IsNoted tests rules events w b
@@ -295,11 +215,7 @@ kept-grow tests rules event events b k = record {
 kept-new : (tests : Tests) (rules : Rules) (events : List Event) (g : ℕ) (b : Bundle)
     → IsLegal tests rules (Guards g b ∷ events) → IsKept tests rules (Guards g b ∷ events) b
 unfolding IsLegal log_of seen openings_of
-kept-new tests rules events g b legal = record {
-  links = legal.0.links;
-  history = legal.0.history;
-  is_seen = λ o h. has-left _ (seen events b.coin) o (simp (eq-eqb b.coin b.coin refl) h);
-}
+kept-new tests rules events g b legal = grind (arith, common_steps, has-left, eq-eqb)
 
 pub is_kept : (tests : Tests) (rules : Rules) (events : List Event) (g : ℕ) (b : Bundle)
     → IsLegal tests rules events → Has (guarded_by events g) b → IsKept tests rules events b

@@ -5,6 +5,7 @@ use Rattle.std.specs.Str.{bytes_eq}
 use Rattle.std.proofs.lemmas.Bool.{eq-eqb, and_from}
 use Rattle.std.proofs.lemmas.List.Elements.{Contains-append_left}
 use Rattle.std.proofs.lemmas.Slice.Eq.{bytes_eq-Decides}
+use Rattle.std.proofs.lemmas.Grind.{common_steps}
 use Rattle.sparse_merkle.specs.declared.tree.Entry.{Entry}
 use Rattle.sparse_merkle.specs.TreeDigest.{leaf_of}
 use Rattle.plasma_tx.specs.declared.owner.Owner.{Owner}
@@ -38,10 +39,7 @@ use Rattle.world_laws.proofs.OperatorGrowth.{HasTrees, tree-stays}
 
 filter-more : {X : Type 0} (p : X → Bool) (x : X) (xs : List X)
     → length (filter p xs) ≤ length (filter p (x ∷ xs))
-filter-more p x xs = elim (p x) as (λ b. length (filter p xs) ≤ length (if b then x ∷ filter p xs else filter p xs)) [
-  | true ↦ omega arith
-  | false ↦ omega arith
-]
+filter-more p x xs = grind (arith, common_steps)
 
 -- the root of a block is committed
 committed-once : (log : List RootCall) (n : ℕ) (root : List ℕ) → root_at log n ≡ Some root

@@ -1,10 +1,10 @@
 -- What a line makes that is answered with a bundle: the bytes of the bundle that the operator's notes and the log give.
-use Rattle.std.proofs.Common.{◌≡◌, ℕ, ◌==◌, Bool, true, false, if◌then◌else◌, List, Option, Some, Ok, Err, refl, sym, ap, ◌∙◌, subst, slice_get}
+use Rattle.std.proofs.Common.{◌≡◌, ℕ, Bool, true, false, if◌then◌else◌, List, Option, Some, Ok, Err, refl, sym, ap, ◌∙◌, subst, slice_get, arith}
 use Rattle.std.specs.Prelude.{Result}
 use Rattle.std.proofs.lemmas.Bool.{false≢true, eq-eqb, eqb-true}
+use Rattle.std.proofs.lemmas.Grind.{common_steps}
 use Rattle.coin_history.specs.declared.bundle.Bundle.{Bundle}
 use Rattle.coin_history.specs.Bundles.{bundle_text}
-use Rattle.coin_history.specs.Checking.{may_be_tip}
 use Rattle.schedule_text.specs.declared.line.Line.{Line}
 use Rattle.schedule_text.specs.declared.command.Command.{Command}
 use Rattle.schedule_text.specs.declared.command.OperatorCommand.{OperatorCommand}
@@ -16,7 +16,7 @@ use Rattle.plasma_tx.specs.declared.opening.RawOpening.{RawOpening}
 use Rattle.sparse_merkle.specs.declared.tree.Entry.{Entry}
 use Rattle.operator_rules.specs.declared.refusal.ProveRefusal.{ProveRefusal}
 use Rattle.operator_rules.specs.Walk.{Place, present}
-use Rattle.operator_rules.specs.Commands.{openings_of, as_bundle, bundle_between, bundle_to, bundle_of, bundle_answer, tip_asked}
+use Rattle.operator_rules.specs.Commands.{as_bundle, bundle_to, bundle_of, bundle_answer, tip_asked}
 use Rattle.node_replies.specs.declared.reply.Reply.{Reply}
 use Rattle.node_replies.specs.Causes.{prove_cause}
 use Rattle.world_rules.specs.Events.{Other}
@@ -38,31 +38,15 @@ use Rattle.world_laws.proofs.Lists.{some_same}
 module _ (dig : List ℕ → List ℕ) (log : List RootCall) (sealed : List (List Entry)) (coin : ℕ) where
   as-is : (tip : ℕ) (openings : Result (List RawOpening) ProveRefusal) (bundle : Bundle)
       → as_bundle coin tip openings ≡ Ok bundle → (bundle.coin ≡ coin) × (bundle.tip ≡ tip)
-  as-is tip (Err why) bundle is = absurd (cc is)
-  as-is tip (Ok openings) bundle is =
-      let same : record { coin = coin; tip = tip; openings = openings } ≡ bundle = cc is in
-      (ap (λ (b : Bundle). b.coin) (sym same), ap (λ (b : Bundle). b.tip) (sym same))
+  as-is tip openings bundle is = grind (arith, common_steps)
 
   pub to-is : (made : CoinView) (tip : ℕ) (bundle : Bundle) → bundle_to dig log sealed coin made tip ≡ Ok bundle
       → (bundle.coin ≡ coin) × (bundle.tip ≡ tip)
-  to-is made tip bundle is = by (may_be_tip log made.deposit tip) is
-    where
-      by : (b : Bool)
-          → (if b then bundle_between dig log sealed coin made.deposit tip else Err (ProveRefusal.UnknownBlock tip))
-          ≡ Ok bundle → (bundle.coin ≡ coin) × (bundle.tip ≡ tip)
-      by true is = as-is tip (openings_of dig log sealed coin _) bundle is
-      by false is = absurd (cc is)
+  to-is made tip bundle is = grind (arith, common_steps, as-is)
 
 -- the tip that is answered is asked for by itself
 asked-again : (asked tip : ℕ) (place : Place) → tip_asked asked place ≡ tip → tip_asked tip place ≡ tip
-asked-again asked tip place is = by (tip == 0) refl (asked == 0) refl is
-  where
-    by : (b : Bool) → (tip == 0) ≡ b → (c : Bool) → (asked == 0) ≡ c → (if c then place.block else asked) ≡ tip
-        → (if b then place.block else tip) ≡ tip
-    by false apart c asked_is is = refl
-    by true same true asked_is is = is
-    by true same false asked_is is =
-        absurd (false≢true (sym asked_is ∙ eq-eqb asked 0 (is ∙ eqb-true tip 0 same)))
+asked-again asked tip place is = grind (arith, common_steps, false≢true, eq-eqb, eqb-true)
 
 -- a bundle that was asked for by another number is that for its tip
 pub bundle-again : (dig : List ℕ → List ℕ) (tag : List ℕ) (log : List RootCall) (sealed : List (List Entry))

@@ -1,6 +1,7 @@
 -- A wallet takes a bundle that is a history which ends with it, unless the coin was withdrawn or an exit stands.
-use Rattle.std.proofs.Common.{◌≡◌, ℕ, not, Bool, true, false, if◌then◌else◌, List, [], ◌∷◌, ◌++◌, length, Option, Some, None, Ok, inl, inr, refl, sym, ap, ◌∙◌, subst, nat_lt}
+use Rattle.std.proofs.Common.{◌≡◌, ℕ, not, Bool, true, false, if◌then◌else◌, List, [], ◌∷◌, ◌++◌, length, Option, Ok, refl, sym, ap, ◌∙◌, subst, nat_lt, arith}
 use Rattle.std.specs.Prelude.{Result}
+use Rattle.std.proofs.lemmas.Grind.{common_steps}
 use Rattle.plasma_tx.specs.declared.owner.Owner.{Owner}
 use Rattle.plasma_tx.specs.declared.links.Links.{Links}
 use Rattle.plasma_tx.specs.declared.call.RootCall.{RootCall}
@@ -42,10 +43,7 @@ module _ (dig : List ℕ → List ℕ) (wallet : WalletRecords) (log : List Root
   cases : (withdrawn : Bool) (standing : Option ℕ) (known : Bool) → is_withdrawn log links.coin ≡ withdrawn
       → standing_block log links.coin ≡ standing
       → IsTakenBundle log links.coin (tip_of links) (reply_of (ends withdrawn standing known))
-  cases true standing known withdrawn_is standing_is = inr (inl (withdrawn_is, refl))
-  cases false (Some block) known withdrawn_is standing_is = inr (inr (block, standing_is, refl))
-  cases false None true withdrawn_is standing_is = inl refl
-  cases false None false withdrawn_is standing_is = inl refl
+  cases withdrawn standing known withdrawn_is standing_is = grind (arith, common_steps)
 
   pub taken-bundle : links_handed dig (who wallet).tag log bytes ≡ Ok links
       → is_owner (last_owner_of links) (owner_of (who wallet)) ≡ true → nat_lt most_note size ≡ false

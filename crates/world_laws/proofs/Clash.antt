@@ -1,25 +1,23 @@
 -- Two accepted openings of one block show one leaf, where no two of the strings that they digest clash.
-use Rattle.std.proofs.Common.{◌≡◌, ◌≢◌, ℕ, true, false, List, [], ◌∷◌, Some, Ok, Err, inl, inr, refl, sym, ap, ◌∙◌, subst}
-use Rattle.std.specs.Prelude.{Result}
+use Rattle.std.proofs.Common.{◌≡◌, ◌≢◌, ℕ, true, false, List, [], ◌∷◌, Some, inl, inr, sym, ap, ◌∙◌, subst, arith, rules}
 use Rattle.std.specs.List.{flat_map}
 use Rattle.std.specs.Str.{bytes_eq}
 use Rattle.std.proofs.lemmas.Bool.{cases_Bool, and_from, or_parts, true≢false, false≢true, not_from_false, false_from_ne_true}
 use Rattle.std.proofs.lemmas.Slice.Eq.{bytes_eq-Decides}
+use Rattle.std.proofs.lemmas.Grind.{common_steps}
 use Rattle.sparse_merkle.specs.MaskedPath.{proof_path}
 use Rattle.sparse_merkle.specs.Opening.{hashed_strings, is_opening}
 use Rattle.sparse_merkle.proofs.OpeningLaws.{HasClash-openings}
 use Rattle.plasma_tx.specs.declared.opening.RawOpening.{RawOpening}
 use Rattle.plasma_tx.specs.declared.opening.Opening.{Opening}
-use Rattle.plasma_tx.specs.declared.opening.OpeningRefusal.{OpeningRefusal}
 use Rattle.plasma_tx.specs.declared.call.RootCall.{RootCall}
-use Rattle.plasma_tx.specs.Openings.{opening_in}
 use Rattle.plasma_tx.specs.Transfer.{transfer_in}
 use Rattle.plasma_tx.proofs.OpeningTexts.{leaf-shown}
-use Rattle.plasma_tx.specs.Shown.{Tests, Rules, tests_by, opens_root, root_at}
+use Rattle.plasma_tx.specs.Shown.{Tests, Rules, tests_by, root_at}
 use Rattle.coin_history.specs.History.{leaf_of_opening, transfer_of}
 use Rattle.watch_duty.proofs.Members.{Has, has-left, has-right, any-has, contains-has}
 use Rattle.world_rules.specs.Laws.{IsDigest}
-use Rattle.world_rules.specs.Exhibits.{strings_up, strings_in, strings_of, do_clash, has_clash}
+use Rattle.world_rules.specs.Exhibits.{strings_in, strings_of, do_clash, has_clash}
 use Rattle.world_laws.proofs.Lists.{some_same}
 
 -- the opening opens its block's root
@@ -83,17 +81,7 @@ module _ (dig : List ℕ → List ℕ) where
     pub leaf : leaf_of_opening o ≡ opening.leaf
 
   read-opening : (root : List ℕ) (c : ℕ) (o : RawOpening) → (tests_by dig).opens root c o ≡ true → IsRead root c o
-  read-opening root c o is = by_read (opening_in dig o) refl is
-    where
-      by_read : (r : Result Opening OpeningRefusal) → opening_in dig o ≡ r → opens_root dig root c r ≡ true
-          → IsRead root c o
-      by_read (Err why) read wrong = absurd (false≢true wrong)
-      by_read (Ok opening) read opens = record {
-        opening = opening;
-        strings = ap (strings_up dig c) read;
-        opens = opens;
-        leaf = leaf-shown dig o opening read;
-      }
+  read-opening root c o is = grind (arith, common_steps, false≢true, leaf-shown)
 
   pub one_leaf : IsDigest dig → (log : List RootCall) (c : ℕ) (os : List RawOpening)
       → has_clash dig (strings_of dig c os) ≡ false → HasOneLeaf (tests_by dig) log c os

@@ -1,19 +1,19 @@
 -- In every run, what wallets do with their coins is legal: each accept, each transfer that a leaf binds, and each that
 -- is taken back, in cuts too. It is what was left to be shown, so all events of every run are legal.
-use Rattle.std.proofs.Common.{◌≡◌, ℕ, Bool, true, false, if◌then◌else◌, List, Some, slice_get}
+use Rattle.std.proofs.Common.{◌≡◌, ℕ, true, List, Some, slice_get, arith}
+use Rattle.std.proofs.lemmas.Grind.{common_steps}
 use Rattle.plasma_tx.specs.declared.call.RootCall.{RootCall}
 use Rattle.plasma_tx.specs.Shown.{tests_by, rules_of}
-use Rattle.plasma_tx.specs.Table.{answer_to, is_accepted}
 use Rattle.schedule_text.specs.declared.line.Line.{Line}
 use Rattle.node_replies.specs.declared.order.NodeOrder.{NodeOrder}
-use Rattle.world_rules.specs.Events.{Event, Watches, Leaves, Seals, Joins, Bounces}
+use Rattle.world_rules.specs.Events.{Event}
 use Rattle.world_rules.specs.World.{Node, World, wallet_of}
 use Rattle.world_rules.specs.Deeds.{Deed}
 use Rattle.world_rules.specs.Steps.{without_offers, Run, events_of}
 use Rattle.world_rules.proofs.KeptNode.{IsFitOrder}
 use Rattle.world_rules.proofs.KeptWorld.{KeptWorld, few-blocks}
 use Rattle.world_rules.proofs.OrderEnds.{OrderEnds, Accepting, Binding, TakingBack, order-ends}
-use Rattle.world_rules.specs.Acts.{NewWallet, Act, Adds, Enters, Orders, End, Whole, Crashed, Kept, Lost, end_of, event_after, deed_at, done}
+use Rattle.world_rules.specs.Acts.{NewWallet, Act, Adds, Enters, Orders, End, end_of, event_after, deed_at, done}
 use Rattle.world_rules.specs.Evidence.{has_order, IsActIn}
 use Rattle.world_rules.proofs.Fitting.{IsFitAct}
 use Rattle.world_laws.specs.Headline.{IsRun}
@@ -49,26 +49,15 @@ module _ (dig : List ℕ → List ℕ) (events : List Event) (world : World) (be
 
   -- in a cut too
   without-coins : (n : ℕ) (event : Event) → P event → P (without_offers n event)
-  without-coins n (Watches m calls) legal = tt
-  without-coins n (Leaves m call) legal = tt
-  without-coins n (Seals call) legal = tt
-  without-coins n event legal = legal
+  without-coins n event legal = grind (arith, common_steps)
 
   end-coins : (n : ℕ) (deed : Deed) → P deed.gives.event → (end : End) → P (event_after n deed end)
-  end-coins n deed legal Whole = legal
-  end-coins n deed legal Lost = tt
-  end-coins n deed legal Crashed = without-coins n deed.gives.event legal
-  end-coins n deed legal Kept = without-coins n deed.gives.event legal
+  end-coins n deed legal end = grind (arith, common_steps, without-coins)
 
   act-coins : (act : Act) → IsActIn world act → IsFitAct act → P (done dig world act).event
   unfolding done
   act-coins (Adds name (NewWallet who)) known fit = tt
-  act-coins (Enters origin call) known fit =
-      entered (is_accepted (answer_to (tests_by dig) (rules_of world.chain) world.chain.log call))
-    where
-      entered : (b : Bool) → P (if b then Joins call else Bounces call)
-      entered true = tt
-      entered false = tt
+  act-coins (Enters origin call) known fit = grind (arith, common_steps)
   act-coins (Orders place order cut) known fit =
       let deed = deed_at dig world place order in
       end-coins place.number deed

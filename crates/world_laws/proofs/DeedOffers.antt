@@ -1,26 +1,26 @@
 -- What orders offer: challenges and answers by a watch, a wallet's own start by a leave, the operator's commit by a
 -- seal. None of it deposits, and a start is by the account of the wallet that offers it.
-use Rattle.std.proofs.Common.{◌≡◌, ℕ, true, false, List, [], Option, Some, None, Ok, Err, inl, inr, refl, sym, ◌∙◌, subst}
+use Rattle.std.proofs.Common.{◌≡◌, ℕ, true, false, List, [], Option, Some, None, Ok, Err, inl, inr, refl, sym, ◌∙◌, subst, arith}
 use Rattle.std.specs.Prelude.{Result}
 use Rattle.std.specs.List.{range_with_len}
 use Rattle.std.specs.Option.{option_map_or}
 use Rattle.std.proofs.lemmas.Bool.{eqb-true, false≢true}
+use Rattle.std.proofs.lemmas.Grind.{common_steps}
 use Rattle.plasma_tx.specs.declared.links.Link.{Link}
 use Rattle.plasma_tx.specs.declared.links.Links.{Links}
 use Rattle.plasma_tx.specs.declared.call.RootCall.{RootCall}
 use Rattle.plasma_tx.specs.declared.views.ExitView.{ExitView}
-use Rattle.plasma_tx.specs.Links.{last_spend}
 use Rattle.plasma_tx.specs.Views.{coins, exits_of}
 use Rattle.wallet_core.specs.declared.coin_state.CoinState.{CoinState}
 use Rattle.wallet_core.specs.declared.coin_state.CoinState.TheVariants.{Nothing, Sending, Leaving, Held}
 use Rattle.node_rules.specs.declared.refusal.WalletRefusal.{WalletRefusal}
 use Rattle.node_rules.specs.Kept.{kept_links}
 use Rattle.node_rules.specs.WalletRecords.{owner_of}
-use Rattle.node_rules.specs.Wallet.{WalletRecords, who, coin_state, links_at, start_by, start_of, exit_start, leave_from, leave_effect, due_in, watch_answer as wallet_watch}
+use Rattle.node_rules.specs.Wallet.{WalletRecords, who, coin_state, links_at, start_by, exit_start, leave_effect, due_in, watch_answer as wallet_watch}
 use Rattle.node_rules.specs.Watcher.{due_for_kept, guards_in, who_is as who_is_watcher, watch_answer as watcher_watch}
 use Rattle.watch_duty.specs.Duty.{due_for, due_of}
 use Rattle.watch_duty.proofs.Members.{Has, has-flat_map}
-use Rattle.watch_duty.proofs.Dues.{IsDue, DueAfter, DueBetween, DueBefore, DueRespond, due_for-due}
+use Rattle.watch_duty.proofs.Dues.{IsDue, due_for-due}
 use Rattle.world_rules.specs.World.{Node, World, is_wallet_role, is_operator_role, wallet_of, owner_of_node}
 use Rattle.node_replies.specs.declared.order.NodeOrder.{NodeOrder}
 use Rattle.world_rules.specs.Events.{Event}
@@ -41,14 +41,7 @@ pub record IsQuiet (call : RootCall) : Type 0 where
 
 quiet-due : (log : List RootCall) (account : ℕ) (links : Links) (exit : ExitView) (call : RootCall)
     → IsDue log account links exit call → IsQuiet call
-quiet-due log account links exit call (DueAfter link after early is) =
-    subst IsQuiet is (record { deposits = λ a. refl; starts = λ a. refl; commits = refl })
-quiet-due log account links exit call (DueBetween link later after early is) =
-    subst IsQuiet is (record { deposits = λ a. refl; starts = λ a. refl; commits = refl })
-quiet-due log account links exit call (DueBefore later fresh early is) =
-    subst IsQuiet is (record { deposits = λ a. refl; starts = λ a. refl; commits = refl })
-quiet-due log account links exit call (DueRespond challenge link at has unanswered after early is) =
-    subst IsQuiet is (record { deposits = λ a. refl; starts = λ a. refl; commits = refl })
+quiet-due log account links exit call h5 = grind (arith, common_steps)
 
 due-quiet : (log : List RootCall) (account : ℕ) (links : Links) (call : RootCall)
     → Has (due_of log account (record { links = links })) call → IsQuiet call
@@ -113,39 +106,17 @@ not_held = Err WalletRefusal.NotHeld
 
 module _ (dig : List ℕ → List ℕ) (wallet : WalletRecords) (log : List RootCall) (call : RootCall) where
   exit-start : (coin tip : ℕ) → exit_start dig wallet log coin tip ≡ Ok call → IsStart (who wallet).account call
-  exit-start coin tip is = by (links_at dig wallet log coin tip) is
-    where
-      by : (links : Option Links)
-          → option_map_or (λ l. Ok (start_of (who wallet).account tip l)) links not_held ≡ Ok call
-          → IsStart (who wallet).account call
-      by None is = absurd (cc is)
-      by (Some links) is =
-          let same : start_of (who wallet).account tip links ≡ call = cc is in
-          subst (IsStart (who wallet).account) same (record {
-            deposits = start-no_deposit (who wallet).account tip links (last_spend links);
-            starts = start-by (who wallet).account tip links (last_spend links);
-            commits = start-no_commit (who wallet).account tip links (last_spend links);
-          })
+  exit-start coin tip is = grind (arith, common_steps, start-no_deposit, start-by, start-no_commit)
 
   pub leave-start : (coin : ℕ) → (leave_effect dig wallet log coin).answer ≡ Ok call
       → IsStart (who wallet).account call
   unfolding leave_effect
-  leave-start coin is = by (coin_state dig wallet log coin) is
-    where
-      by : (state : CoinState) → (leave_from dig wallet log coin state).answer ≡ Ok call
-          → IsStart (who wallet).account call
-      by Nothing is = absurd (cc is)
-      by (Sending tip q) is = absurd (cc is)
-      by (Leaving tip) is = exit-start coin tip is
-      by (Held tip) is = exit-start coin tip is
+  leave-start coin is = grind (arith, common_steps, exit-start)
 
 -- ---- so each node offers
 
 quiet-offer : (node : Node) (call : RootCall) → IsQuiet call → IsOffer node call
-quiet-offer node call quiet = record {
-  deposits = quiet.deposits;
-  starts = λ account is. absurd (false≢true (sym (quiet.starts account) ∙ is));
-}
+quiet-offer node call quiet = grind (arith, common_steps, false≢true)
 
 module _ (dig : List ℕ → List ℕ) (world : World) (place : Place) (order : NodeOrder)
     (may : MayOrder world place order) (call : RootCall) (has : Has (deed_at dig world place order).gives.offers call)

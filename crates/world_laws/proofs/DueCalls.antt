@@ -1,9 +1,10 @@
 -- What is due for the exits of a coin that a node guards, and so is among the calls that it offers.
-use Rattle.std.proofs.Common.{◌≡◌, ℕ, ◌+◌, ◌<◌, ◌≤◌, ◌==◌, ◌&&◌, ◌||◌, cond, not, Bool, true, false, if◌then◌else◌, List, [], ◌∷◌, map, Option, Some, None, inl, inr, refl, sym, ap, ◌∙◌, subst, arith, find, filter}
+use Rattle.std.proofs.Common.{◌≡◌, ℕ, ◌+◌, ◌<◌, ◌≤◌, ◌==◌, ◌&&◌, ◌||◌, cond, not, Bool, true, false, if◌then◌else◌, List, [], ◌∷◌, map, Option, Some, None, inl, inr, refl, sym, ap, ◌∙◌, subst, arith, find, filter, rules}
 use Rattle.std.specs.Prelude.{is_some, is_none, nat_lt, unwrap_or}
 use Rattle.std.specs.Option.{option_map, option_map_or, option_or}
 use Rattle.std.specs.List.{list_any, flat_map}
 use Rattle.std.proofs.lemmas.Bool.{eq-eqb, lt-ltb, le-ltb, lt-leb, and_from, not_from_false, false≢true}
+use Rattle.std.proofs.lemmas.Grind.{common_steps}
 use Rattle.plasma_tx.specs.declared.owner.Owner.{Owner}
 use Rattle.plasma_tx.specs.declared.links.Link.{Link}
 use Rattle.plasma_tx.specs.declared.links.Links.{Links}
@@ -34,11 +35,7 @@ pub has-kept : {X : Type 0} (p : X → Bool) (xs : List X) (x : X) → Has xs x 
 has-kept p [] x h is = absurd h
 has-kept p (y ∷ ys) x (inl same) is =
     subst (λ b. Has (cond b (y ∷ filter p ys) (filter p ys)) x) (sym (ap p same ∙ is)) (inl same)
-has-kept p (y ∷ ys) x (inr h) is =
-    elim (p y) as (λ b. Has (cond b (y ∷ filter p ys) (filter p ys)) x) [
-      | true ↦ inr (has-kept p ys x h is)
-      | false ↦ has-kept p ys x h is
-    ]
+has-kept p (y ∷ ys) x (inr h) is = grind (arith, common_steps, has-kept p ys x h is)
 
 has-flat : {X Y : Type 0} (f : X → List Y) (xs : List X) (x : X) (y : Y) → Has xs x → Has (f x) y
     → Has (flat_map f xs) y

@@ -1,8 +1,7 @@
 -- A call that a watch offers is accepted at once, where there is money for a Before.
-use Rattle.std.proofs.Common.{◌≡◌, ℕ, ◌+◌, ◌-◌, ◌||◌, true, false, if◌then◌else◌, List, [], ◌∷◌, ◌++◌, Option, Some, None, inl, inr, refl, sym, ap, ◌∙◌, subst, arith, filter}
-use Rattle.std.specs.Prelude.{is_some}
+use Rattle.std.proofs.Common.{◌≡◌, ℕ, true, false, if◌then◌else◌, List, [], ◌∷◌, ◌++◌, Option, Some, None, refl, sym, ap, ◌∙◌, subst, arith, rules}
 use Rattle.std.specs.Option.{option_map_or}
-use Rattle.std.specs.List.{All, range_with_len}
+use Rattle.std.proofs.lemmas.Grind.{common_steps}
 use Rattle.plasma_tx.specs.declared.opening.RawOpening.{RawOpening}
 use Rattle.plasma_tx.specs.declared.owner.Owner.{Owner}
 use Rattle.plasma_tx.specs.declared.links.Links.{Links}
@@ -12,14 +11,14 @@ use Rattle.plasma_tx.specs.declared.views.ExitView.{ExitView}
 use Rattle.plasma_tx.specs.Views.{coin_at, exits_of}
 use Rattle.plasma_tx.specs.Shown.{Tests, Rules, tests_by, root_at}
 use Rattle.coin_history.specs.declared.bundle.Bundle.{Bundle}
-use Rattle.coin_history.specs.History.{is_absent, transfer_of, opens_block, is_committed, committed_blocks, blocks_of, links_in, links_of, AreLinked, IsHistory}
+use Rattle.coin_history.specs.History.{committed_blocks, links_of, AreLinked, IsHistory}
 use Rattle.coin_history.proofs.HistoryLinks.{tip-is, tip_from, none-linked}
 use Rattle.node_rules.specs.Kept.{kept_links}
 use Rattle.node_rules.specs.Watcher.{due_for_kept}
 use Rattle.watch_duty.specs.Duty.{due_for, due_of}
 use Rattle.watch_duty.specs.Laws.{HaveOneLeaf, is_poor_before}
 use Rattle.watch_duty.proofs.Members.{Has, has-cases, has-contains, contains-has, has-flat_map}
-use Rattle.watch_duty.proofs.Dues.{IsDue as IsDueFor, DueAfter, DueBetween, DueBefore, DueRespond, due_for-due}
+use Rattle.watch_duty.proofs.Dues.{IsDue as IsDueFor, due_for-due}
 use Rattle.watch_duty.proofs.Shown.{seen as log_seen}
 use Rattle.watch_duty.proofs.Accepts.{due_calls_are_accepted}
 use Rattle.world_rules.specs.Events.{Event, Watches, log_of, coin_of_call, wallet_owner, accepted, guarded_by, is_command_of, offered}
@@ -41,23 +40,7 @@ pub bare-history : (tests : Tests) (rules : Rules) (log : List RootCall) (b : Bu
     → coin_at log b.coin ≡ Some made → made.deposit ≡ b.tip → b.openings ≡ []
     → IsHistory tests rules log b (links_of rules made b)
 unfolding committed_blocks AreLinked
-bare-history tests rules log b made found tip none =
-    let empty : links_in rules b.coin b.openings ≡ [] = ap (links_in rules b.coin) none ∙ none-linked rules b.coin in
-    record {
-      made = made;
-      coin = found;
-      blocks = ap blocks_of none ∙ no_blocks (b.tip - made.deposit) (omega (arith, tip));
-      opened = subst (All (λ (o : RawOpening). opens_block tests log b.coin o ≡ true)) (sym none)
-          (λ i d less. absurd (omega arith));
-      leaves = subst (All (λ (o : RawOpening). (is_absent o || is_some (transfer_of rules b.coin o)) ≡ true))
-          (sym none) (λ i d less. absurd (omega arith));
-      shown = refl;
-      linked = subst (AreLinked tests made.deposit made.owner) (sym empty) tt;
-      tip = tip-is (links_of rules made b) ∙ ap (tip_from made.deposit) empty ∙ tip;
-    }
-  where
-    no_blocks : (n : ℕ) → n ≡ 0 → [] ≡ filter (is_committed log) (range_with_len (made.deposit + 1) n)
-    no_blocks n is = ap (λ k. filter (is_committed log) (range_with_len (made.deposit + 1) k)) (sym is)
+bare-history tests rules log b made found tip none = grind (arith, common_steps, none-linked, tip-is, tip_from)
 
 -- what shows a guard is a history
 pub shows-kept : (tests : Tests) (rules : Rules) (events : List Event) (n : ℕ) (b : Bundle)
@@ -129,14 +112,7 @@ module _ (tests : Tests) (rules : Rules) where
 
 poor-same : (log : List RootCall) (account : ℕ) (links : Links) (x : ExitView) (call : RootCall)
     → IsDueFor log account links x call → is_poor_before log account call ≡ lacks_bond log call
-poor-same log account links x call (DueAfter link a b same) =
-    subst (λ c. is_poor_before log account c ≡ lacks_bond log c) same refl
-poor-same log account links x call (DueBetween link a b d same) =
-    subst (λ c. is_poor_before log account c ≡ lacks_bond log c) same refl
-poor-same log account links x call (DueBefore a b d same) =
-    subst (λ c. is_poor_before log account c ≡ lacks_bond log c) same refl
-poor-same log account links x call (DueRespond ch link a b d f g same) =
-    subst (λ c. is_poor_before log account c ≡ lacks_bond log c) same refl
+poor-same log account links x call h5 = grind (arith, common_steps)
 
 -- the openings of the history and of the log's calls have one leaf in each block
 leaves-of : (tests : Tests) (events : List Event) (c : ℕ) (os : List RawOpening)
@@ -149,10 +125,7 @@ leaves-of tests events c os one has a b root in_a in_b same committed opens_a op
     (record { root = root; root_is = ap (root_at (log_of events)) (sym same) ∙ committed; opens = opens_b }) same
   where
     place : (o : RawOpening) → Has (log_seen (log_of events) c ++ os) o → Has (seen events c) o
-    place o h = elim (has-cases (log_seen (log_of events) c) os o h) [
-      | inl of_log ↦ log-seen events c o of_log
-      | inr of_os ↦ has o of_os
-    ]
+    place o h = grind (arith, common_steps, has-cases, log_seen, log-seen)
 
 pub due_calls_are_taken : LegalDueCallsAreTaken
 unfolding collides

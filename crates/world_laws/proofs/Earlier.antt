@@ -1,14 +1,15 @@
 -- One step back along the log: where a standing exit and its open challenges come from, and that the clock doesn't go
 -- back.
-use Rattle.std.proofs.Common.{◌≡◌, ◌⊎◌, ℕ, ◌≤◌, ◌==◌, ◌&&◌, not, Bool, true, false, if◌then◌else◌, List, [], ◌∷◌, ◌++◌, Some, None, inl, inr, refl, sym, ap, ◌∙◌, subst}
+use Rattle.std.proofs.Common.{◌≡◌, ◌⊎◌, ℕ, ◌≤◌, ◌==◌, ◌&&◌, not, Bool, true, false, if◌then◌else◌, List, [], ◌∷◌, ◌++◌, Some, None, inl, inr, refl, sym, ap, ◌∙◌, subst, arith, rules}
 use Rattle.std.specs.Prelude.{is_some, is_none}
 use Rattle.std.proofs.Math.Nat.{le_refl}
 use Rattle.std.proofs.lemmas.Bool.{eqb-true, eq-eqb, and_parts, and_from, not-true, true≢false, false_from_ne_true}
+use Rattle.std.proofs.lemmas.Grind.{common_steps}
 use Rattle.plasma_tx.specs.declared.opening.RawOpening.{RawOpening}
 use Rattle.plasma_tx.specs.declared.call.Shown.{Shown}
 use Rattle.plasma_tx.specs.declared.call.RootCall.{RootCall}
 use Rattle.plasma_tx.specs.declared.call.RootCall.TheVariants.{Fund, Tick, Deposit, Commit, StartDeposit, StartSpend, After, Between, Before, Respond, Finish}
-use Rattle.plasma_tx.specs.Views.{now, block_of, Challenge, Exit, is_exit, exits, exit_at, without_exit, deposit_exit, spend_exit, challenge_at, with_challenge, with_answer, with_answer_at, new_challenge}
+use Rattle.plasma_tx.specs.Views.{now, block_of, Challenge, Exit, is_exit, exits, exit_at, without_exit, deposit_exit, spend_exit, challenge_at, with_challenge, with_answer, new_challenge}
 use Rattle.plasma_tx.specs.Laws.{is_start, is_end, is_respond}
 use Rattle.plasma_tx.specs.Shown.{Tests, Rules}
 use Rattle.plasma_tx.specs.Table.{is_accepted, answer_to}
@@ -64,10 +65,7 @@ pub record IsNew (log : List RootCall) (call : RootCall) (x : Exit) : Type 0 whe
 -- an exit of another name isn't meant
 other-name : (k f : ℕ) (x : Exit) → is_exit k f x ≡ false → ((k == x.coin) && (f == x.block)) ≡ false
 other-name k f x other =
-    false_from_ne_true ((k == x.coin) && (f == x.block)) (λ is.
-    let parts = and_parts (k == x.coin) (f == x.block) is in
-    true≢false (sym (and_from (x.coin == k) (x.block == f) (eq-eqb x.coin k (sym (eqb-true k x.coin parts.0)))
-    (eq-eqb x.block f (sym (eqb-true f x.block parts.1)))) ∙ other))
+    grind (arith, common_steps, false_from_ne_true, and_parts, true≢false, and_from, eq-eqb, eqb-true)
 
 own-name : (k f : ℕ) (x : Exit) → is_exit k f x ≡ true → ((k == x.coin) && (f == x.block)) ≡ true
 own-name k f x is =
@@ -92,12 +90,7 @@ is_none-new : (n : ℕ) (chs : List Challenge) (new : Challenge) → new.block �
     → is_none (challenge_at n (chs ++ new ∷ [])) ≡ false
 is_none-new n [] new same =
     ap (λ (b : Bool). is_none (if b then Some new else None)) (eq-eqb new.block n same)
-is_none-new n (first ∷ rest) new same =
-    elim (first.block == n) as (λ b.
-    is_none (if b then Some first else challenge_at n (rest ++ new ∷ [])) ≡ false) [
-      | true ↦ refl
-      | false ↦ is_none-new n rest new same
-    ]
+is_none-new n (first ∷ rest) new same = grind (arith, common_steps, is_none-new n rest new same)
 
 -- ---- one call
 
@@ -106,28 +99,7 @@ module _ (tests : Tests) (rules : Rules) (log : List RootCall) where
   still : (call : RootCall) (x : Exit) → Has (exits log) x → is_start x.coin x.block call ≡ false
       → is_end x.coin x.block call ≡ false → ((n : ℕ) → is_before x.coin x.block n call ≡ false)
       → ((n : ℕ) → is_respond x.coin x.block n call ≡ false) → StoodBefore log call x
-  still call x there not_started not_ended not_made not_answered = record {
-    y = x;
-    there = there;
-    coin = refl;
-    block = refl;
-    parent = refl;
-    account = refl;
-    start = refl;
-    not_started = not_started;
-    not_ended = not_ended;
-    challenged = λ n was. was;
-    by_it = λ n on. absurd (true≢false (sym on ∙ not_made n));
-    opened = λ ch has unanswered. inr (record {
-      old = ch;
-      there = has;
-      block = refl;
-      at = refl;
-      unanswered = unanswered;
-      not_made = not_made ch.block;
-      not_answered = not_answered ch.block;
-    });
-  }
+  still call x there not_started not_ended not_made not_answered = grind (arith, common_steps, true≢false)
 
   -- what a filter by a name keeps is of another name
   kept-other : (k f : ℕ) (x : Exit) → Has (without_exit k f (exits log)) x
@@ -180,10 +152,7 @@ module _ (tests : Tests) (rules : Rules) (log : List RootCall) where
             (λ on. none-at (block_of shown) y.challenges ch free has (at-block ch.block on));
         not_answered = refl;
       })
-      from-open ch (inr (inl same)) unanswered = inl (
-        made ch.block (ap (λ (z : Challenge). z.block) same),
-        ap (λ (z : Challenge). z.at) (sym same),
-      )
+      from-open ch (inr (inl same)) unanswered = grind (arith, common_steps)
       from-open ch (inr (inr none)) unanswered = absurd none
 
       stood : StoodBefore log (Before account k f shown)
@@ -206,44 +175,18 @@ module _ (tests : Tests) (rules : Rules) (log : List RootCall) where
 
   answered-before : (account k f n : ℕ) (spend : RawOpening) (y : Exit) → Has (exits log) y
       → StoodBefore log (Respond account k f n spend) (with_answer n y)
-  answered-before account k f n spend y there = record {
-    y = y;
-    there = there;
-    coin = refl;
-    block = refl;
-    parent = refl;
-    account = refl;
-    start = refl;
-    not_started = refl;
-    not_ended = refl;
-    challenged = λ m was. is_none-answered m n y.challenges ∙ was;
-    by_it = λ m on. absurd (true≢false (sym on));
-    opened = λ ch has unanswered.
-        let r = has-map (with_answer_at n) y.challenges ch has in
-        inr (unanswered-old r.0 ch r.1 r.2 unanswered);
-  }
-    where
-      unanswered-old : (old ch : Challenge) → Has y.challenges old → with_answer_at n old ≡ ch
-          → ch.answered ≡ false → WasOpen (Respond account k f n spend) (with_answer n y) y ch
-      unanswered-old old ch has is unanswered =
-          (elim (old.block == n) as (λ b. (old.block == n) ≡ b
-          → (if b then record old { answered = true } else old) ≡ ch
-          → WasOpen (Respond account k f n spend) (with_answer n y) y ch) [
-            | true ↦ λ here same.
-                absurd (true≢false (ap (λ (z : Challenge). z.answered) same ∙ unanswered))
-            | false ↦ λ other same. record {
-              old = old;
-              there = has;
-              block = ap (λ (z : Challenge). z.block) same;
-              at = ap (λ (z : Challenge). z.at) same;
-              unanswered = ap (λ (z : Challenge). z.answered) same ∙ unanswered;
-              not_made = refl;
-              not_answered = false_from_ne_true _ (λ on.
-                  let at = eqb-true n ch.block
-                  (and_parts ((k == y.coin) && (f == y.block)) (n == ch.block) on).1 in
-                  true≢false (sym (eq-eqb old.block n (ap (λ (z : Challenge). z.block) same ∙ sym at)) ∙ other));
-            }
-          ]) refl is
+  answered-before account k f n spend y there =
+      grind (
+        arith,
+        common_steps,
+        is_none-answered,
+        true≢false,
+        has-map,
+        false_from_ne_true,
+        eqb-true,
+        and_parts,
+        eq-eqb,
+      )
 
   -- a standing exit is new with the call, or stood before it
   pub stood-before : (call : RootCall) → is_accepted (answer_to tests rules log call) ≡ true → (x : Exit)
@@ -305,15 +248,7 @@ module _ (tests : Tests) (rules : Rules) (log : List RootCall) where
             (λ n. ap (λ b. b && (block_of shown == n)) (other-name k f r.0 other)) (λ n. refl)
       ]) refl))
   stood-before (Respond account k f challenged spend) is x h =
-      let change : Exit → Exit = with_answer challenged in
-      let r = has-map (λ (exit : Exit). if is_exit k f exit then change exit else exit) (exits log) x h in
-      inr (subst (StoodBefore log (Respond account k f challenged spend)) r.2
-      ((elim (is_exit k f r.0) as (λ b. is_exit k f r.0 ≡ b
-      → StoodBefore log (Respond account k f challenged spend) (if b then change r.0 else r.0)) [
-        | true ↦ λ named. answered-before account k f challenged spend r.0 r.1
-        | false ↦ λ other. still (Respond account k f challenged spend) r.0 r.1 refl refl (λ n. refl)
-            (λ n. ap (λ b. b && (challenged == n)) (other-name k f r.0 other))
-      ]) refl))
+      grind (arith, common_steps, has-map, answered-before, still, other-name)
 
   -- the clock doesn't go back
   pub clock-before : (call : RootCall) → is_accepted (answer_to tests rules log call) ≡ true

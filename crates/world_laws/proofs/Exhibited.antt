@@ -1,19 +1,19 @@
 -- Where the events exhibit nothing, no coin's strings clash and no wallet's signature is forged.
-use Rattle.std.proofs.Common.{◌≡◌, ◌≢◌, ◌⊎◌, ℕ, ◌+◌, ◌==◌, not, Bool, true, false, if◌then◌else◌, List, [], ◌∷◌, ◌++◌, length, Option, Some, None, inl, inr, refl, sym, ap, ◌∙◌, subst, find}
+use Rattle.std.proofs.Common.{◌≡◌, ◌≢◌, ◌⊎◌, ℕ, ◌+◌, ◌==◌, not, Bool, true, false, if◌then◌else◌, List, [], ◌∷◌, ◌++◌, length, Option, Some, None, inl, inr, refl, sym, ap, ◌∙◌, subst, find, arith}
 use Rattle.std.specs.List.{list_any}
 use Rattle.std.specs.Option.{option_map, option_or}
 use Rattle.std.specs.Str.{bytes_eq}
 use Rattle.std.proofs.lemmas.Bool.{cases_eq, ne_eqb, eqb-true, and_parts, or_cases, or_from, not-true, true≢false, false≢true, false_from_ne_true}
 use Rattle.std.proofs.lemmas.Slice.Eq.{bytes_eq-Decides}
+use Rattle.std.proofs.lemmas.Grind.{common_steps}
 use Rattle.plasma_tx.specs.declared.owner.Owner.{Owner}
 use Rattle.plasma_tx.specs.declared.opening.RawOpening.{RawOpening}
 use Rattle.plasma_tx.specs.declared.call.RootCall.{RootCall}
-use Rattle.plasma_tx.specs.declared.call.RootCall.TheVariants.{StartSpend, After, Between, Before, Respond}
-use Rattle.watch_duty.specs.Laws.{openings_of_call, shown_openings}
+use Rattle.watch_duty.specs.Laws.{openings_of_call}
 use Rattle.watch_duty.proofs.Members.{Has, has-left, has-right, has-cases}
 use Rattle.world_rules.specs.declared.verdict.Exhibit.{Exhibit}
-use Rattle.world_rules.specs.Events.{Event, Declares, Joins, Accepts, Guards, TakesBack, wallet_owner, wallets, bound_by, coin_of_call}
-use Rattle.world_rules.specs.Exhibits.{Pair, openings_of, coin_of, seen, strings_of, strings_shown, all_strings, do_clash, has_clash, clash_with, first_clash, collision_or, forgery_or, forges_one, shows_forgery, is_forged, forges_some, first_forgery, exhibit_of}
+use Rattle.world_rules.specs.Events.{Event, Declares, wallet_owner, wallets, bound_by, coin_of_call}
+use Rattle.world_rules.specs.Exhibits.{openings_of, coin_of, seen, strings_of, strings_shown, all_strings, do_clash, has_clash, clash_with, first_clash, forges_one, shows_forgery, is_forged, forges_some, first_forgery, exhibit_of}
 use Rattle.world_laws.proofs.Lists.{none_some, any-none, any-some}
 use Rattle.world_laws.proofs.Clash.{clash-from}
 use Rattle.world_laws.proofs.Before.{strings-append}
@@ -25,26 +25,14 @@ or-none (Some x) p is = absurd (none_some x (sym is))
 -- ---- the openings of an event are of one coin
 
 if-own : (k c : ℕ) (os : List RawOpening) → (c ≡ k) ⊎ ((if k == c then os else []) ≡ [])
-if-own k c os = elim (cases_eq k c) [
-  | inl same ↦ inl (sym same)
-  | inr apart ↦ inr (ap (λ (b : Bool). if b then os else []) (ne_eqb k c apart))
-]
+if-own k c os = grind (arith, common_steps, cases_eq, ne_eqb)
 
 call-own : (c : ℕ) (call : RootCall) → (c ≡ coin_of_call call) ⊎ (openings_of_call c call ≡ [])
-call-own c (StartSpend account coin parent exit) = if-own coin c (shown_openings parent ++ exit ∷ [])
-call-own c (After account coin exit spend) = if-own coin c (spend ∷ [])
-call-own c (Between account coin exit spend) = if-own coin c (spend ∷ [])
-call-own c (Before account coin exit shown) = if-own coin c (shown_openings shown)
-call-own c (Respond account coin exit challenged spend) = if-own coin c (spend ∷ [])
-call-own c call = inr refl
+call-own c call = grind (arith, common_steps, if-own)
 
 event-own : (c : ℕ) (event : Event) → (c ≡ coin_of event) ⊎ (openings_of c event ≡ [])
 unfolding openings_of coin_of
-event-own c (Joins call) = call-own c call
-event-own c (Accepts w bundle) = if-own bundle.coin c bundle.openings
-event-own c (Guards g bundle) = if-own bundle.coin c bundle.openings
-event-own c (TakesBack w q bundle) = if-own bundle.coin c bundle.openings
-event-own c event = inr refl
+event-own c event = grind (arith, common_steps, call-own, if-own)
 
 -- ---- clashes
 
@@ -56,10 +44,7 @@ module _ (dig : List ℕ → List ℕ) where
   -- the strings of one coin are among all
   event-strings : (c : ℕ) (event : Event) (s : List ℕ) → Has (strings_of dig c (openings_of c event)) s
       → Has (strings_shown dig event) s
-  event-strings c event s h = elim (event-own c event) [
-    | inl same ↦ subst (λ k. Has (strings_of dig k (openings_of k event)) s) same h
-    | inr none ↦ absurd (nothing-of c s (subst (λ (l : List RawOpening). Has (strings_of dig c l) s) none h))
-  ]
+  event-strings c event s h = grind (arith, common_steps, event-own, nothing-of)
 
   coin-strings : (events : List Event) (c : ℕ) (s : List ℕ) → Has (strings_of dig c (seen events c)) s
       → Has (all_strings dig events) s
@@ -92,13 +77,7 @@ module _ (dig : List ℕ → List ℕ) where
       ]) refl none
 
   push-has : (xs ys : List (List ℕ)) (s x : List ℕ) → Has (xs ++ s ∷ ys) x → Has ((xs ++ s ∷ []) ++ ys) x
-  push-has xs ys s x h = elim (has-cases xs (s ∷ ys) x h) [
-    | inl before ↦ has-left (xs ++ s ∷ []) ys x (has-left xs (s ∷ []) x before)
-    | inr behind ↦ elim behind [
-      | inl same ↦ has-left (xs ++ s ∷ []) ys x (has-right xs (s ∷ []) x (inl same))
-      | inr later ↦ has-right (xs ++ s ∷ []) ys x later
-    ]
-  ]
+  push-has xs ys s x h = grind (arith, common_steps, has-cases, has-left, has-right)
 
   first-none : (earlier ss : List (List ℕ)) → first_clash dig earlier ss ≡ None → NoneClash (earlier ++ ss) ss
   unfolding first_clash
@@ -180,20 +159,7 @@ forges-none tag (Some me) w c events = refl
 -- an event at which no wallet's signature is forged
 event-unforged : (tag : List ℕ) (events : List Event) (event : Event) (w c : ℕ)
     → forges_some tag events event ≡ false → shows_forgery tag events w c (openings_of c event) ≡ false
-event-unforged tag events event w c none = by_owner (wallet_owner events w) refl
-  where
-    by_owner : (o : Option Owner) → wallet_owner events w ≡ o
-        → forges_one tag o (bound_by events w) c (openings_of c event) ≡ false
-    by_owner None o_is = refl
-    by_owner (Some me) o_is = elim (event-own c event) [
-      | inr empty ↦ ap (forges_one tag (Some me) (bound_by events w) c) empty
-          ∙ forges-none tag (Some me) w c events
-      | inl same ↦
-          let off = any-none (λ v. shows_forgery tag events v (coin_of event) (openings_of (coin_of event) event))
-          (wallets events) w none (wallet-listed events w me o_is) in
-          ap (λ o. forges_one tag o (bound_by events w) c (openings_of c event)) (sym o_is)
-          ∙ ap (λ k. shows_forgery tag events w k (openings_of k event)) same ∙ off
-    ]
+event-unforged tag events event w c none = grind (arith, common_steps, event-own, forges-none, any-none, wallet-listed)
 
 pub no-forgery : (tag : List ℕ) (events : List Event) (w c : ℕ) → first_forgery tag events ≡ None
     → is_forged tag events w c ≡ false
@@ -215,11 +181,4 @@ pub nothing-exhibited : (dig : List ℕ → List ℕ) (tag : List ℕ) (events :
     → exhibit_of dig tag events ≡ Exhibit.Nothing
     → (first_clash dig [] (all_strings dig events) ≡ None) × (first_forgery tag events ≡ None)
 unfolding exhibit_of
-nothing-exhibited dig tag events is =
-    by_both (first_clash dig [] (all_strings dig events)) (first_forgery tag events) is
-  where
-    by_both : (p : Option Pair) (f : Option ℕ) → collision_or p (forgery_or f) ≡ Exhibit.Nothing
-        → (p ≡ None) × (f ≡ None)
-    by_both None None same = (refl, refl)
-    by_both None (Some line) wrong = absurd (cc wrong)
-    by_both (Some pair) f wrong = absurd (cc wrong)
+nothing-exhibited dig tag events is = grind (arith, common_steps)

@@ -1,8 +1,9 @@
 -- Who guards a held coin: the holder, and each watcher that keeps a guard at its tip.
-use Rattle.std.proofs.Common.{◌≡◌, ◌⊎◌, ℕ, ◌==◌, ◌||◌, not, true, false, if◌then◌else◌, List, [], ◌∷◌, Option, Some, None, inl, inr, refl, sym, ap, ◌∙◌, subst, filter}
-use Rattle.std.specs.Option.{option_map, option_map_or}
+use Rattle.std.proofs.Common.{◌≡◌, ℕ, ◌==◌, not, true, false, if◌then◌else◌, List, [], ◌∷◌, Option, Some, None, inl, inr, refl, sym, ap, ◌∙◌, subst, filter, arith, rules}
+use Rattle.std.specs.Option.{option_map_or}
 use Rattle.std.specs.List.{list_any}
 use Rattle.std.proofs.lemmas.Bool.{eqb-true, and_from, or_cases, or_left, or_right, not_from_false}
+use Rattle.std.proofs.lemmas.Grind.{common_steps}
 use Rattle.plasma_tx.specs.declared.owner.Owner.{Owner}
 use Rattle.plasma_tx.specs.declared.opening.RawOpening.{RawOpening}
 use Rattle.plasma_tx.specs.declared.links.Links.{Links}
@@ -19,10 +20,10 @@ use Rattle.node_rules.specs.Kept.{chain_of, kept_links}
 use Rattle.node_rules.specs.Watcher.{due_for_kept}
 use Rattle.watch_duty.specs.Duty.{tip_shown, due_for, due_of}
 use Rattle.watch_duty.proofs.Members.{Has, contains-has, has-contains, has-flat_map, has-filter}
-use Rattle.watch_duty.proofs.Dues.{IsDue as IsDueFor, DueAfter, DueBetween, DueBefore, DueRespond, due_for-due}
-use Rattle.world_rules.specs.Events.{Event, Watches, Guards, Releases, log_of, coin_of_call, wallet_owner, accepted, signed_away_by, is_bundle, guarded_by, is_command_of}
+use Rattle.watch_duty.proofs.Dues.{IsDue as IsDueFor, due_for-due}
+use Rattle.world_rules.specs.Events.{Event, Watches, Guards, Releases, log_of, coin_of_call, wallet_owner, accepted, is_bundle, guarded_by, is_command_of}
 use Rattle.world_rules.specs.Exhibits.{seen, is_forged}
-use Rattle.world_rules.specs.Safety.{was_deposited, holds_with, holds}
+use Rattle.world_rules.specs.Safety.{was_deposited, holds}
 use Rattle.world_laws.specs.Legal.{Taken, Bare, IsGuarding, ShowsGuard, IsLegal}
 use Rattle.world_laws.specs.Looked.{is_guardian}
 use Rattle.world_laws.proofs.Histories.{links-at, shown-tip}
@@ -43,17 +44,7 @@ links-tag rules c os = refl
 
 pub kept-some : (rules : Rules) (log : List RootCall) (b : Bundle) (made : CoinView)
     → coin_at log b.coin ≡ Some made → kept_links rules.tag log b ≡ Some (links_of rules made b)
-kept-some rules log b made found =
-    ap (option_map (λ (m : CoinView). links_of (chain_of rules.tag) m b)) found
-    ∙ λ i. Some (record {
-      coin = b.coin;
-      deposit = made.deposit;
-      owner = made.owner;
-      spends = links_tag_at i;
-    })
-  where
-    links_tag_at : links_in (chain_of rules.tag) b.coin b.openings ≡ links_in rules b.coin b.openings
-    links_tag_at = links-tag rules b.coin b.openings
+kept-some rules log b made found = grind (arith, common_steps, links-tag)
 
 -- the bundle has these links, and they make a good guard
 pub record ShowsGood (tests : Tests) (rules : Rules) (log : List RootCall) (os : List RawOpening) (c : ℕ)
@@ -108,10 +99,7 @@ module _ (tests : Tests) (rules : Rules) (log : List RootCall) (os : ℕ → Lis
 
 due-coin : (log : List RootCall) (account : ℕ) (links : Links) (x : ExitView) (call : RootCall)
     → IsDueFor log account links x call → coin_of_call call ≡ links.coin
-due-coin log account links x call (DueAfter link a b same) = ap coin_of_call (sym same)
-due-coin log account links x call (DueBetween link a b d same) = ap coin_of_call (sym same)
-due-coin log account links x call (DueBefore a b d same) = ap coin_of_call (sym same)
-due-coin log account links x call (DueRespond ch link a b d f g same) = ap coin_of_call (sym same)
+due-coin log account links x call h5 = grind (arith, common_steps)
 
 pub due_of-coin : (log : List RootCall) (account : ℕ) (links : Links) (call : RootCall)
     → Has (due_of log account (record { links = links })) call → coin_of_call call ≡ links.coin
@@ -193,15 +181,7 @@ no_wallet tests rules (event ∷ events) g b legal h =
 
 pub holds-from : (events : List Event) (w c e : ℕ) → Holding events w c e → holds events w c e ≡ true
 unfolding holds
-holds-from events w c e h =
-    subst (λ o. holds_with (log_of events) o (signed_away_by events w) (accepted events w) c e ≡ true) (sym h.me_is)
-    (and_from _ _ (and_from _ _ (either h.source) (not_from_false _ h.not_away)) (not_from_false _ h.not_withdrawn))
-  where
-    either : (was_deposited h.me e (coin_at (log_of events) c) ≡ true)
-        ⊎ (list_any (is_bundle c e) (accepted events w) ≡ true)
-        → (was_deposited h.me e (coin_at (log_of events) c) || list_any (is_bundle c e) (accepted events w)) ≡ true
-    either (inl l) = or_left _ _ l
-    either (inr r) = or_right _ _ r
+holds-from events w c e h = grind (arith, common_steps, and_from, not_from_false, or_left, or_right)
 
 -- a watch offers what is due for a coin that its node guards
 pub watch-due : (tests : Tests) (rules : Rules) (events : List Event) (n : ℕ) (offers : List RootCall) (c : ℕ)

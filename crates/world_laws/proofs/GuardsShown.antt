@@ -1,9 +1,10 @@
 -- What a watcher's records keep is shown by a bundle that events say it guards: one of the same coin and tip, with the
 -- same links.
-use Rattle.std.proofs.Common.{◌≡◌, ◌⊎◌, ℕ, ◌==◌, ◌&&◌, not, Bool, true, false, if◌then◌else◌, cond, ◌^◌, ◌<◌, List, [], ◌∷◌, ◌++◌, filter, Option, Some, None, Ok, Err, inl, inr, refl, sym, ap, ◌∙◌, subst, lit<}
+use Rattle.std.proofs.Common.{◌≡◌, ◌⊎◌, ℕ, not, Bool, true, false, if◌then◌else◌, cond, ◌^◌, ◌<◌, List, [], ◌∷◌, filter, Option, Some, None, Ok, Err, inl, inr, refl, sym, ap, ◌∙◌, subst, lit<, arith}
 use Rattle.std.specs.Prelude.{Result, IfSome}
 use Rattle.std.specs.List.{list_any}
 use Rattle.std.proofs.lemmas.Bool.{false≢true}
+use Rattle.std.proofs.lemmas.Grind.{common_steps}
 use Rattle.node_journal.specs.Effect.{Effect, first_cause, unless, only}
 use Rattle.plasma_tx.specs.declared.links.Links.{Links}
 use Rattle.plasma_tx.specs.declared.call.RootCall.{RootCall}
@@ -16,7 +17,7 @@ use Rattle.node_rules.specs.declared.refusal.WatcherRefusal.{WatcherRefusal}
 use Rattle.node_rules.specs.declared.refusal.WatcherRefusal.TheVariants.{NoGuard}
 use Rattle.node_rules.specs.Kept.{chain_of, kept_of, links_handed}
 use Rattle.node_rules.specs.Laws.{IsReadBack}
-use Rattle.node_rules.specs.Watcher.{Guarded, Released, note_text, who_is, is_of, is_before, with_guard, guards_of, guards_in, guard_causes, guard_by, guard_effect, release_effect}
+use Rattle.node_rules.specs.Watcher.{Guarded, Released, note_text, who_is, is_of, with_guard, guards_of, guards_in, guard_causes, guard_by, guard_effect, release_effect}
 use Rattle.node_rules.specs.WatcherLaws.{AddsNote, AddsGuard}
 use Rattle.node_rules.proofs.WatcherRole.{commands_add_their_notes}
 use Rattle.watch_duty.proofs.Members.{Has, has-cases, has-filter}
@@ -52,60 +53,24 @@ AreShown tag bundles guards = (kept : Bundle) → Has guards kept → IsShown ta
 
 has-guard : (kept : Bundle) (guards : List Bundle) (other : Bundle) → Has (with_guard kept guards) other
     → (kept ≡ other) ⊎ Has guards other
-has-guard kept guards other h = by (list_any (is_of kept.coin kept.tip) guards) h
-  where
-    front : List Bundle
-    front = filter (λ one. is_before one kept) guards
-
-    back : List Bundle
-    back = filter (λ one. not (is_before one kept)) guards
-
-    by : (b : Bool) → Has (if b then guards else front ++ kept ∷ back) other → (kept ≡ other) ⊎ Has guards other
-    by true h = inr h
-    by false h = elim (has-cases front (kept ∷ back) other h) [
-      | inl first ↦ inr (has-filter (λ one. is_before one kept) guards other first).0
-      | inr rest ↦ elim rest [
-        | inl same ↦ inl same
-        | inr later ↦ inr (has-filter (λ one. not (is_before one kept)) guards other later).0
-      ]
-    ]
+has-guard kept guards other h = grind (arith, common_steps, has-cases, has-filter)
 
 filter-has : {X : Type 0} (p : X → Bool) (xs : List X) (x : X) → Has xs x → p x ≡ true → Has (filter p xs) x
 filter-has p [] x h passes = absurd h
 filter-has p (y ∷ ys) x (inl same) passes =
     subst (λ b. Has (cond b (y ∷ filter p ys) (filter p ys)) x) (sym (ap p same ∙ passes)) (inl same)
-filter-has p (y ∷ ys) x (inr h) passes =
-    elim (p y) as (λ b. Has (cond b (y ∷ filter p ys) (filter p ys)) x) [
-      | true ↦ inr (filter-has p ys x h passes)
-      | false ↦ filter-has p ys x h passes
-    ]
+filter-has p (y ∷ ys) x (inr h) passes = grind (arith, common_steps, filter-has p ys x h passes)
 
 -- one more bundle shows no less
 pub shown-more : (tag : List ℕ) (bundle : Bundle) (bundles guards : List Bundle) → AreShown tag bundles guards
     → AreShown tag (bundle ∷ bundles) guards
-shown-more tag bundle bundles guards shown kept has = let by = shown kept has in record {
-  bundle = by.bundle;
-  has = inr by.has;
-  coin = by.coin;
-  tip = by.tip;
-  links = by.links;
-}
+shown-more tag bundle bundles guards shown kept has = grind (arith, common_steps)
 
 -- what is let go of both
 shown-released : (tag : List ℕ) (c e : ℕ) (bundles guards : List Bundle) → AreShown tag bundles guards
     → AreShown tag (filter (λ bundle. not (is_bundle c e bundle)) bundles)
     (filter (λ kept. not (is_of c e kept)) guards)
-shown-released tag c e bundles guards shown kept has =
-    let old = has-filter (λ (one : Bundle). not (is_of c e one)) guards kept has in
-    let by = shown kept old.0 in
-    record {
-      bundle = by.bundle;
-      has = filter-has (λ (one : Bundle). not (is_bundle c e one)) bundles by.bundle by.has
-          ((λ i. not ((by.coin i == c) && (by.tip i == e))) ∙ old.1);
-      coin = by.coin;
-      tip = by.tip;
-      links = by.links;
-    }
+shown-released tag c e bundles guards shown kept has = grind (arith, common_steps, has-filter, filter-has)
 
 -- ---- a watcher's commands
 

@@ -1,11 +1,11 @@
 -- What the histories of a coin have in common, and what the holder's shows.
-use Rattle.std.proofs.Common.{◌≡◌, ◌⊎◌, ℕ, ◌<◌, ◌≤◌, ◌==◌, true, false, List, [], Option, Some, None, inl, inr, refl, sym, ap, ◌∙◌, subst, arith}
+use Rattle.std.proofs.Common.{◌≡◌, ◌⊎◌, ℕ, ◌<◌, ◌≤◌, ◌==◌, true, false, List, [], Option, Some, None, inl, inr, refl, sym, ap, ◌∙◌, subst, arith, rules}
 use Rattle.std.specs.Prelude.{is_some}
 use Rattle.std.specs.List.{list_any}
 use Rattle.std.proofs.lemmas.Bool.{cases_lt, eqb-true, and_parts, or_cases, false≢true}
+use Rattle.std.proofs.lemmas.Grind.{common_steps}
 use Rattle.plasma_tx.specs.declared.owner.Owner.{Owner}
 use Rattle.plasma_tx.specs.declared.opening.RawOpening.{RawOpening}
-use Rattle.plasma_tx.specs.declared.signed_tx.SignedTx.{SignedTx}
 use Rattle.plasma_tx.specs.declared.links.Links.{Links}
 use Rattle.plasma_tx.specs.declared.call.RootCall.{RootCall}
 use Rattle.plasma_tx.specs.declared.views.CoinView.{CoinView}
@@ -16,7 +16,6 @@ use Rattle.coin_history.specs.declared.bundle.Bundle.{Bundle}
 use Rattle.coin_history.specs.History.{transfer_of, links_in, IsHistory}
 use Rattle.watch_duty.specs.Duty.{next_link, link_after}
 use Rattle.watch_duty.proofs.Members.{Has}
-use Rattle.wallet_core.specs.State.{is_owner}
 use Rattle.world_rules.specs.Events.{Event, log_of, accepted, bound_by, signed_away_by, is_bundle}
 use Rattle.world_rules.specs.Exhibits.{seen, is_forged}
 use Rattle.world_rules.specs.Safety.{was_deposited}
@@ -80,13 +79,7 @@ module _ (tests : Tests) (rules : Rules) (log : List RootCall) (os : List RawOpe
   -- a block has one owner
   pub shown_same : (n : ℕ) (first other : Owner) → IsShownAt tests rules log os c made n first
       → IsShownAt tests rules log os c made n other → first ≡ other
-  shown_same n first other (Deposited a p) (Deposited b q) = p ∙ sym q
-  shown_same n first other (Deposited a p) (Transferred s opened low) = absurd (omega arith)
-  shown_same n first other (Transferred s opened low) (Deposited b q) = absurd (omega arith)
-  shown_same n first other (Transferred s a low) (Transferred r b more) =
-      let leaf = one_tx tests rules log c os one s.o r.o s.has r.has a b (s.block_is ∙ sym r.block_is) in
-      let tx : s.tx ≡ r.tx = some_same s.tx r.tx (sym s.tx_is ∙ leaf ∙ r.tx_is) in
-      sym s.to_is ∙ ap (λ (x : SignedTx). x.body.to) tx ∙ r.to_is
+  shown_same n first other h3 h4 = grind (arith, common_steps, one_tx, some_same)
 
   -- each shown block before the tip has a successor in each history up to it
   pub successor_in : (e : ℕ) (owner : Owner) (openings : List RawOpening)
@@ -159,23 +152,14 @@ walk-as : (tests : Tests) (rules : Rules) (log : List RootCall) (k c : ℕ) (kno
     → IsWalk tests rules log k known.deposit (place_of known) openings (record { block = tip; owner = owner })
     → IsWalk tests rules log c made.deposit (place_of made) openings (record { block = e; owner = owner })
 walk-as tests rules log k c known made tip e owner openings k_is made_is tip_is walk =
-    subst (λ x. IsWalk tests rules log c made.deposit (place_of made) openings (record { block = x; owner = owner }))
-    tip_is
-    (subst (λ (x : CoinView). IsWalk tests rules log c x.deposit (place_of x) openings
-    (record { block = tip; owner = owner })) made_is
-    (subst (λ x. IsWalk tests rules log x known.deposit (place_of known) openings
-    (record { block = tip; owner = owner })) k_is walk))
+    grind (arith, common_steps, place_of)
 
 pub known-from : (tests : Tests) (rules : Rules) (log : List RootCall) (os : ℕ → List RawOpening) (b : Bundle)
     (links : Links) (c e : ℕ) (made : CoinView) → IsHistory tests rules log b links
     → ((o : RawOpening) → Has b.openings o → Has (os b.coin) o) → b.coin ≡ c → b.tip ≡ e → coin_at log c ≡ Some made
     → Known tests rules log (os c) c made e (last_owner_of links) b.openings
-known-from tests rules log os b links c e made history has c_is e_is found = record {
-  walk = walk-as tests rules log b.coin c history.made made b.tip e (last_owner_of links) b.openings c_is
-      (some_same history.made made (sym history.coin ∙ ap (coin_at log) c_is ∙ found)) e_is
-      (history-walk tests rules log b links history);
-  has = λ o h. subst (λ k. Has (os k) o) c_is (has o h);
-}
+known-from tests rules log os b links c e made history has c_is e_is found =
+    grind (arith, common_steps, walk-as, some_same, history-walk)
 
 pub bundle-named : (c e : ℕ) (b : Bundle) → is_bundle c e b ≡ true → (b.coin ≡ c) × (b.tip ≡ e)
 bundle-named c e b is =
@@ -193,10 +177,7 @@ pub record HeldAt (tests : Tests) (rules : Rules) (events : List Event) (w c e :
 
 pub deposited-coin : (me : Owner) (e : ℕ) (o : Option CoinView) → was_deposited me e o ≡ true
     → (made : CoinView) × (o ≡ Some made) × (made.deposit ≡ e) × (made.owner ≡ me)
-deposited-coin me e None is = absurd (false≢true is)
-deposited-coin me e (Some made) is =
-    let parts = and_parts (made.deposit == e) (is_owner made.owner me) is in
-    (made, refl, eqb-true made.deposit e parts.0, owner-is made.owner me parts.1)
+deposited-coin me e o is = grind (arith, common_steps, false≢true, and_parts, eqb-true, owner-is)
 
 pub empty-walk : (tests : Tests) (rules : Rules) (log : List RootCall) (c : ℕ) (made : CoinView) (e : ℕ) (me : Owner)
     → made.deposit ≡ e → made.owner ≡ me

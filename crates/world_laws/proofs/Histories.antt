@@ -1,10 +1,11 @@
 -- Histories as walks, absences block by block, and that both stay as the log grows.
-use Rattle.std.proofs.Common.{◌≡◌, ℕ, suc, ◌-◌, length, ◌<◌, ◌≤◌, ◌==◌, ◌||◌, true, false, List, [], ◌∷◌, Option, Some, None, inl, inr, refl, sym, ap, ◌∙◌, subst, arith}
+use Rattle.std.proofs.Common.{◌≡◌, ℕ, suc, ◌-◌, length, ◌<◌, ◌≤◌, ◌==◌, ◌||◌, true, List, [], ◌∷◌, Option, Some, None, refl, sym, ap, ◌∙◌, subst, arith, rules}
 use Rattle.std.specs.Prelude.{is_some}
 use Rattle.std.specs.Option.{option_map, option_map_or}
 use Rattle.std.specs.List.{AllByRecursion, cons_option}
 use Rattle.std.proofs.lemmas.Bool.{eqb-true, true≢false, false≢true, false_from_ne_true, or_cases}
 use Rattle.std.proofs.lemmas.List.Elements.{recursion_from_All}
+use Rattle.std.proofs.lemmas.Grind.{common_steps}
 use Rattle.plasma_tx.specs.declared.opening.RawOpening.{RawOpening}
 use Rattle.plasma_tx.specs.declared.signed_tx.SignedTx.{SignedTx}
 use Rattle.plasma_tx.specs.declared.links.Link.{Link}
@@ -25,7 +26,7 @@ use Rattle.coin_history.proofs.HistoryGrow.{root_at-grown, committed-le}
 use Rattle.watch_duty.proofs.Members.{Has, all-has}
 use Rattle.world_laws.proofs.Lists.{find-has, got-has}
 use Rattle.world_laws.proofs.Clash.{IsOpened}
-use Rattle.world_laws.proofs.Walk.{Place, IsGap, Absent, Moves, IsWalk}
+use Rattle.world_laws.proofs.Walk.{Place, IsGap, Moves, IsWalk}
 
 abbrev pub place_of : CoinView → Place
 place_of made = record { block = made.deposit; owner = made.owner }
@@ -38,12 +39,7 @@ leaf-empty (byte ∷ bytes) is = absurd (false≢true is)
 
 opened-from : (tests : Tests) (log : List RootCall) (c : ℕ) (o : RawOpening) → opens_block tests log c o ≡ true
     → IsOpened tests log c o
-opened-from tests log c o is = by_root (root_at log o.block) refl is
-  where
-    by_root : (r : Option (List ℕ)) → root_at log o.block ≡ r
-        → option_map_or (λ root. tests.opens root c o) r false ≡ true → IsOpened tests log c o
-    by_root None r_is wrong = absurd (false≢true wrong)
-    by_root (Some root) r_is opens = record { root = root; root_is = r_is; opens = opens }
+opened-from tests log c o is = grind (arith, common_steps, false≢true)
 
 pub opened-grow : (tests : Tests) (call : RootCall) (log : List RootCall) (c : ℕ) (o : RawOpening)
     → IsOpened tests log c o → IsOpened tests (call ∷ log) c o
@@ -77,14 +73,8 @@ asked-rest log low high o os are = record {
 
 asked-gap : (log : List RootCall) (low high : ℕ) (o : RawOpening) (os : List RawOpening)
     → AreAsked log low high (o ∷ os) → IsGap log low o.block
-asked-gap log low high o os are m above under = by_root (root_at log m) refl
-  where
-    by_root : (r : Option (List ℕ)) → root_at log m ≡ r → r ≡ None
-    by_root None r_is = refl
-    by_root (Some root) r_is =
-        let from = asked-parts log low high o.block are.each.0 in
-        absurd (true≢false (sym (asked-from log low high m (ap is_some r_is) above (omega (arith, under, from.2)))
-        ∙ are.other m (below-none o.block (o ∷ os) (omega arith, are.up.1) m under)))
+asked-gap log low high o os are m above under =
+    grind (arith, common_steps, asked-parts, true≢false, asked-from, below-none)
 
 -- ---- a history is a walk
 
@@ -109,10 +99,7 @@ module _ (tests : Tests) (rules : Rules) (log : List RootCall) (c tip : ℕ) whe
       up)
     where
       absent_then : transfer_of rules c o ≡ None → is_absent o ≡ true
-      absent_then none = elim (or_cases (is_absent o) (is_some (transfer_of rules c o)) leaves.0) [
-        | inl absent ↦ absent
-        | inr some ↦ absurd (false≢true (sym (ap is_some none) ∙ some))
-      ]
+      absent_then none = grind (arith, common_steps, or_cases, false≢true)
 
       by_tx : (t : Option SignedTx) → transfer_of rules c o ≡ t
           → AreLinked tests last.block last.owner (cons_option (option_map (with_tx o) t) (links_in rules c os))
@@ -122,16 +109,7 @@ module _ (tests : Tests) (rules : Rules) (log : List RootCall) (c tip : ℕ) whe
           → IsWalk tests rules log c o.block next os (EndOf next (links_in rules c os)))
           → IsWalk tests rules log c n last (o ∷ os)
           (EndOf last (cons_option (option_map (with_tx o) t) (links_in rules c os)))
-      by_tx None none chain at rest =
-          let parts = asked-parts log n tip o.block are.each.0 in
-          record {
-            rises = parts.1;
-            gap = asked-gap log n tip o os are;
-            opened = opened-from tests log c o opened.0;
-            next = last;
-            step = Absent (leaf-empty (leaf_of_opening o) (absent_then none)) refl;
-            rest = rest last chain at (omega (arith, low, parts.1)) parts.2;
-          }
+      by_tx None none chain at rest = grind (arith, common_steps, asked-parts, asked-gap, opened-from, leaf-empty)
       by_tx (Some tx) some chain at rest =
           let parts = asked-parts log n tip o.block are.each.0 in
           record {
@@ -209,12 +187,7 @@ pub links-at : (rules : Rules) (c : ℕ) (os : List RawOpening)
     → AllByRecursion (λ link. link.opening.block ≡ link.block) (links_in rules c os)
 unfolding links_in
 links-at rules c [] = tt
-links-at rules c (o ∷ os) =
-    elim (transfer_of rules c o) as (λ t. AllByRecursion (λ (link : Link). link.opening.block ≡ link.block)
-    (cons_option (option_map (with_tx o) t) (links_in rules c os))) [
-      | None ↦ links-at rules c os
-      | Some tx ↦ (refl, links-at rules c os)
-    ]
+links-at rules c (o ∷ os) = grind (arith, common_steps, links-at rules c os, with_tx)
 
 -- so what shows the tip of these links is in the tip's block
 pub shown-tip : (links : Links) → AllByRecursion (λ link. link.opening.block ≡ link.block) links.spends

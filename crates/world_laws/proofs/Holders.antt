@@ -1,9 +1,10 @@
 -- The accounts of wallets by their nodes' numbers: no two wallets have one, and every account that deposits or starts
 -- is a wallet's or that of a `call` line.
-use Rattle.std.proofs.Common.{◌≡◌, ◌⊎◌, ℕ, zero, suc, ◌==◌, ◌||◌, Bool, true, false, if◌then◌else◌, List, [], ◌∷◌, ◌++◌, length, map, Option, Some, None, inl, inr, refl, sym, ap, ◌∙◌, subst, set, slice_get}
+use Rattle.std.proofs.Common.{◌≡◌, ◌⊎◌, ℕ, zero, suc, ◌==◌, ◌||◌, Bool, true, false, if◌then◌else◌, List, [], ◌∷◌, ◌++◌, length, map, Option, Some, None, inl, inr, refl, sym, ap, ◌∙◌, set, slice_get, arith}
 use Rattle.std.specs.List.{list_any}
 use Rattle.std.proofs.Common.{filter, cond}
 use Rattle.std.proofs.lemmas.Bool.{cases_eq, eq-eqb, or_left, or_right}
+use Rattle.std.proofs.lemmas.Grind.{common_steps}
 use Rattle.plasma_tx.specs.declared.call.RootCall.{RootCall}
 use Rattle.watch_duty.proofs.Members.{Has}
 use Rattle.world_rules.specs.World.{Node, World, is_wallet_role}
@@ -38,18 +39,8 @@ holder-at (first ∷ rest) (suc n) node is = holder-at rest n node is
 pub held-node : (nodes : List Node) (n account : ℕ) → slice_get (holders nodes) n ≡ Some (Some account)
     → (node : Node) × (slice_get nodes n ≡ Some node) × (is_wallet_role node.role ≡ true) × (node.account ≡ account)
 held-node [] n account is = absurd (cc is)
-held-node (first ∷ rest) zero account is =
-    by (is_wallet_role first.role) refl (some_same (holder first) (Some account) is)
-  where
-    by : (b : Bool) → is_wallet_role first.role ≡ b → (if b then Some first.account else None) ≡ Some account
-        → (node : Node) × (Some first ≡ Some node) × (is_wallet_role node.role ≡ true) × (node.account ≡ account)
-    by true role same = (first, refl, role, some_same first.account account same)
-    by false role same = absurd (cc same)
+held-node (first ∷ rest) zero account is = grind (arith, common_steps, some_same)
 held-node (first ∷ rest) (suc n) account is = held-node rest n account is
-
-pub holders-length : (nodes : List Node) → length (holders nodes) ≡ length nodes
-holders-length [] = refl
-holders-length (node ∷ nodes) = ap suc (holders-length nodes)
 
 -- a node that changes, but for its role and account, leaves them
 pub holders-set : (nodes : List Node) (n : ℕ) (old new : Node) → slice_get nodes n ≡ Some old
@@ -80,10 +71,7 @@ any-filter p q (y ∷ ys) zero x is kept passes =
     (ap q (some_same y x is) ∙ kept)
     ∙ or_left (p y) (list_any p (filter q ys)) (ap p (some_same y x is) ∙ passes)
 any-filter p q (y ∷ ys) (suc n) x is kept passes =
-    elim (q y) as (λ b. list_any p (cond b (y ∷ filter q ys) (filter q ys)) ≡ true) [
-      | true ↦ or_right (p y) (list_any p (filter q ys)) (any-filter p q ys n x is kept passes)
-      | false ↦ any-filter p q ys n x is kept passes
-    ]
+    grind (arith, common_steps, any-filter p q ys n x is kept passes, or_right)
 
 -- the account of a declared node is declared, and a wallet's is a wallet's
 pub held-declared : (nodes : List Node) (account : ℕ) → IsHeld (holders nodes) account
@@ -162,27 +150,13 @@ accounts-push held new callers log other kept = record {
 pub accounts-callers : (held : List (Option ℕ)) (callers more : List ℕ) (log : List RootCall)
     → ((account : ℕ) → list_any (λ caller. caller == account) callers ≡ true
     → list_any (λ caller. caller == account) more ≡ true) → KeepAccounts held callers log → KeepAccounts held more log
-accounts-callers held callers more log grows kept = record {
-  distinct = kept.distinct;
-  known = λ account call has moves. elim (kept.known account call has moves) [
-    | inl is ↦ inl is
-    | inr is ↦ inr (grows account is)
-  ];
-}
+accounts-callers held callers more log grows kept = grind (arith, common_steps)
 
 -- one more call, whose account is known
 pub accounts-call : (held : List (Option ℕ)) (callers : List ℕ) (log : List RootCall) (call : RootCall)
     → ((account : ℕ) → Moves account call → IsKnown held callers account) → KeepAccounts held callers log
     → KeepAccounts held callers (call ∷ log)
-accounts-call held callers log call is_known kept = record {
-  distinct = kept.distinct;
-  known = known;
-}
-  where
-    known : (account : ℕ) (other : RootCall) → Has (call ∷ log) other → Moves account other
-        → IsKnown held callers account
-    known account other (inl same) moves = is_known account (subst (Moves account) (sym same) moves)
-    known account other (inr has) moves = kept.known account other has moves
+accounts-call held callers log call is_known kept = grind (arith, common_steps)
 
 -- an account that isn't known neither deposited nor started
 pub unknown-none : (held : List (Option ℕ)) (callers : List ℕ) (log : List RootCall) (p : RootCall → Bool)

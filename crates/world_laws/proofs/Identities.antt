@@ -1,16 +1,16 @@
 -- Who the nodes are, what they offer, and that all of it stays: the first of a node's notes is its identity, whose
 -- tag is the chain's and whose account is the node's; events say who the wallets are, and of no other node.
-use Rattle.std.proofs.Common.{◌≡◌, ℕ, ◌<◌, ◌^◌, Bool, true, false, if◌then◌else◌, List, [], ◌∷◌, length, Option, Some, None, refl, sym, ap, ◌∙◌, slice_get}
+use Rattle.std.proofs.Common.{◌≡◌, ℕ, ◌<◌, ◌^◌, Bool, true, false, if◌then◌else◌, List, [], ◌∷◌, length, Option, Some, None, refl, ap, slice_get, arith}
 use Rattle.std.specs.List.{list_any}
-use Rattle.std.specs.Option.{option_map_or}
 use Rattle.std.proofs.lemmas.Bool.{eq-eqb}
+use Rattle.std.proofs.lemmas.Grind.{common_steps}
 use Rattle.lms_sign.specs.Types.{is_supported}
 use Rattle.plasma_tx.specs.declared.owner.Owner.{Owner}
 use Rattle.plasma_tx.specs.declared.call.RootCall.{RootCall}
 use Rattle.node_rules.specs.declared.identity.WalletIdentity.{WalletIdentity}
-use Rattle.node_rules.specs.WalletRecords.{identity_text as wallet_text, identity_in as wallet_in, no_one, owner_of, who_is as who_is_wallet}
+use Rattle.node_rules.specs.WalletRecords.{identity_text as wallet_text, owner_of, who_is as who_is_wallet}
 use Rattle.node_rules.specs.WalletLaws.{IsIdentity as IsWalletIdentity}
-use Rattle.node_rules.specs.Watcher.{WatcherIdentity, nobody, identity_text as watcher_text, identity_in as watcher_in, who_is as who_is_watcher}
+use Rattle.node_rules.specs.Watcher.{WatcherIdentity, identity_text as watcher_text, who_is as who_is_watcher}
 use Rattle.node_rules.specs.WatcherLaws.{IsIdentity as IsWatcherIdentity}
 use Rattle.node_rules.proofs.WalletTexts.{identity_in-text as wallet-read}
 use Rattle.node_rules.proofs.WatcherTexts.{identity_in-text as watcher-read}
@@ -50,33 +50,19 @@ IsOfRole events tag n node Operator = wallet_owner events n ≡ None
 pub wallet-who : (notes : List (List ℕ)) (who : WalletIdentity) → IsWalletIdentity who
     → slice_get notes 0 ≡ Some (wallet_text who) → who_is_wallet notes ≡ who
 unfolding who_is_wallet
-wallet-who [] who identity first = absurd (none_some (wallet_text who) first)
-wallet-who (body ∷ bodies) who identity first =
-    ap (λ (b : List ℕ). option_map_or (λ (w : WalletIdentity). w) (wallet_in b) no_one)
-    (some_same body (wallet_text who) first)
-    ∙ ap (λ (o : Option WalletIdentity). option_map_or (λ (w : WalletIdentity). w) o no_one) (wallet-read who identity)
+wallet-who notes who identity first = grind (arith, common_steps, none_some, some_same, wallet-read)
 
 pub watcher-who : (notes : List (List ℕ)) (who : WatcherIdentity) → IsWatcherIdentity who
     → slice_get notes 0 ≡ Some (watcher_text who) → who_is_watcher notes ≡ who
 unfolding who_is_watcher
-watcher-who [] who identity first = absurd (none_some (watcher_text who) first)
-watcher-who (body ∷ bodies) who identity first =
-    ap (λ (b : List ℕ). option_map_or (λ (w : WatcherIdentity). w) (watcher_in b) nobody)
-    (some_same body (watcher_text who) first)
-    ∙ ap (λ (o : Option WatcherIdentity). option_map_or (λ (w : WatcherIdentity). w) o nobody)
-    (watcher-read who identity)
+watcher-who notes who identity first = grind (arith, common_steps, none_some, some_same, watcher-read)
 
 -- who the wallet is that a node is
 pub wallet-node : (events : List Event) (tag : List ℕ) (n : ℕ) (node : Node) → IsWallet events tag n node
     → (wallet_owner events n ≡ Some (owner_of_node node)) × ((owner_of_node node).account ≡ node.account)
     × ((who_is_wallet node.notes).tag ≡ tag)
 unfolding owner_of
-wallet-node events tag n node is =
-    let same = wallet-who node.notes is.who is.identity is.first in (
-      is.owner ∙ ap (λ (w : WalletIdentity). Some (owner_of w)) (sym same),
-      ap (λ (w : WalletIdentity). w.account) same ∙ is.account_is,
-      ap (λ (w : WalletIdentity). w.tag) same ∙ is.tag_is,
-    )
+wallet-node events tag n node is = grind (arith, common_steps, wallet-who)
 
 -- ---- what a node offers
 
@@ -121,34 +107,14 @@ pub role-stays : (events more : List Event) (tag : List ℕ) (n : ℕ) (node aft
     → wallet_owner more n ≡ wallet_owner events n → after.account ≡ node.account
     → ((body : List ℕ) → slice_get node.notes 0 ≡ Some body → slice_get after.notes 0 ≡ Some body)
     → IsOfRole events tag n node role → IsOfRole more tag n after role
-role-stays events more tag n node after Wallet same account first is = record {
-  who = is.who;
-  identity = is.identity;
-  first = first (wallet_text is.who) is.first;
-  tag_is = is.tag_is;
-  account_is = is.account_is ∙ sym account;
-  owner = same ∙ is.owner;
-}
-role-stays events more tag n node after Watcher same account first is = record {
-  who = is.who;
-  identity = is.identity;
-  first = first (watcher_text is.who) is.first;
-  tag_is = is.tag_is;
-  account_is = is.account_is ∙ sym account;
-  owner = same ∙ is.owner;
-}
-role-stays events more tag n node after Operator same account first is = same ∙ is
+role-stays events more tag n node after role same account first is = grind (arith, common_steps)
 
 -- so does what isn't there
 pub node-same : (events more : List Event) (tag : List ℕ) (n : ℕ) (found : Option Node)
     → wallet_owner more n ≡ wallet_owner events n
     → (list_any (is_command_of n) events ≡ false → list_any (is_command_of n) more ≡ false)
     → IsNodeAt events tag n found → IsNodeAt more tag n found
-node-same events more tag n None same unused is = (same ∙ is.0, unused is.1)
-node-same events more tag n (Some node) same unused is = record {
-  is = role-stays events more tag n node node node.role same refl (λ body at. at) is.is;
-  offers = is.offers;
-}
+node-same events more tag n found same unused is = grind (arith, common_steps, role-stays)
 
 pub first-recorded : (notes : List (List ℕ)) (note : Option (List ℕ)) (body : List ℕ) → slice_get notes 0 ≡ Some body
     → slice_get (with_record notes note) 0 ≡ Some body
@@ -160,9 +126,4 @@ first-recorded (first ∷ rest) (Some more) body is = is
 
 pub wallet-identity : (world : World) (who : WalletIdentity) → length world.chain.tag ≡ 32 → IsOfChain world who
     → (who.account < 2 ^ 64) × (is_supported who.types ≡ true) → IsWalletIdentity who
-wallet-identity world who long of fit = record {
-  tag = ap (λ (tag : List ℕ). length tag) of.tag ∙ long;
-  account = fit.0;
-  seed = ap (λ (seed : List ℕ). length seed) of.is_seed;
-  types = fit.1;
-}
+wallet-identity world who long of fit = grind (arith, common_steps)

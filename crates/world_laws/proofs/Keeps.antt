@@ -1,9 +1,10 @@
 -- What holds in the world of every run behind its events: who the nodes are, what they offer, and whose accounts the
 -- log's calls move.
-use Rattle.std.proofs.Common.{◌≡◌, ℕ, zero, suc, ◌-◌, ◌==◌, ◌&&◌, ◌||◌, not, nat_lt, Bool, true, false, if◌then◌else◌, List, [], ◌∷◌, ◌++◌, length, Option, Some, None, inl, inr, refl, sym, ap, ◌∙◌, subst, set, slice_get, le_refl}
+use Rattle.std.proofs.Common.{◌≡◌, ℕ, zero, suc, ◌==◌, true, false, if◌then◌else◌, List, [], ◌∷◌, ◌++◌, length, Option, Some, None, inl, inr, refl, sym, ap, ◌∙◌, subst, set, slice_get, le_refl, arith, rules}
 use Rattle.std.specs.List.{list_any}
 use Rattle.std.proofs.lemmas.Bool.{and_parts, or_parts, or_left, or_right, not-true, eqb-true, false≢true}
 use Rattle.std.proofs.lemmas.Option.{slice_get_past}
+use Rattle.std.proofs.lemmas.Grind.{common_steps}
 use Rattle.line_forms.proofs.FormLaws.{option_map_some}
 use Rattle.plasma_tx.specs.declared.call.RootCall.{RootCall}
 use Rattle.plasma_tx.specs.Shown.{Rules, tests_by, rules_of}
@@ -11,17 +12,16 @@ use Rattle.plasma_tx.specs.Table.{answer_to, is_accepted, log_after}
 use Rattle.schedule_text.specs.declared.line.Line.{Line}
 use Rattle.schedule_text.specs.declared.call_form.CallForm.{CallForm}
 use Rattle.node_rules.specs.declared.identity.WalletIdentity.{WalletIdentity}
-use Rattle.node_rules.specs.WalletRecords.{identity_text as wallet_text, owner_of}
+use Rattle.node_rules.specs.WalletRecords.{identity_text as wallet_text}
 use Rattle.node_rules.specs.Wallet.{who}
 use Rattle.node_rules.specs.Watcher.{WatcherIdentity, who_is, identity_text as watcher_text}
 use Rattle.node_replies.specs.declared.order.NodeOrder.{NodeOrder}
 use Rattle.watch_duty.proofs.Members.{Has}
-use Rattle.world_rules.specs.Events.{Event, Other, Idle, wallet_owner, node_in, is_command_of}
-use Rattle.world_rules.specs.World.{Role, Wallet, Watcher, Operator, Node, World, is_wallet_role, is_watcher_role, owner_of_node, wallet_of, key_of, call_of, padded}
-use Rattle.world_rules.specs.Declarations.{is_new_name, is_declared_account, is_caller, is_wallet_key, is_wallet_seed, wallet_nodes, may_be_wallet}
-use Rattle.world_rules.specs.declared.TheConstants.{MOST_WALLETS}
+use Rattle.world_rules.specs.Events.{Event, Idle, wallet_owner, node_in, is_command_of}
+use Rattle.world_rules.specs.World.{Wallet, Watcher, Node, World, is_wallet_role, is_watcher_role, owner_of_node, wallet_of, call_of}
+use Rattle.world_rules.specs.Declarations.{is_declared_account, is_caller, may_be_wallet}
 use Rattle.world_rules.specs.Deeds.{Deed}
-use Rattle.world_rules.specs.Steps.{new_node, after_crash, offer_numbered, Run, events_of}
+use Rattle.world_rules.specs.Steps.{new_node, offer_numbered, Run, events_of}
 use Rattle.world_rules.proofs.Lives.{begun}
 use Rattle.world_rules.specs.Acts.{Place, NewWallet, NewWatcher, NewRogue, Origin, Plain, Deposits, Raw, Offered, Act, Adds, Enters, Orders, Crashes, callers_after, End, Whole, Crashed, Kept, Lost, end_of, node_after, event_after, deed_at, done}
 use Rattle.world_rules.specs.Evidence.{IsThere, is_plain, IsFrom, MayOrder, IsActIn}
@@ -52,11 +52,7 @@ held-by nodes n node account is role same = (n, holder-is nodes n node account i
 
 -- money that comes in and the time move no account
 pub plain-moves : (call : RootCall) (account : ℕ) → is_plain call ≡ true → Moves account call → ⊥
-plain-moves (RootCall.Fund by amount) account plain (inl wrong) = false≢true wrong
-plain-moves (RootCall.Fund by amount) account plain (inr wrong) = false≢true wrong
-plain-moves (RootCall.Tick time) account plain (inl wrong) = false≢true wrong
-plain-moves (RootCall.Tick time) account plain (inr wrong) = false≢true wrong
-plain-moves call account plain moves = false≢true plain
+plain-moves call account plain moves = grind (arith, common_steps, false≢true)
 
 -- an offer with a number is one of the offers
 slice-has : (xs : List RootCall) (n : ℕ) (x : RootCall) → slice_get xs n ≡ Some x → Has xs x
@@ -66,37 +62,12 @@ slice-has (y ∷ ys) (suc n) x is = inr (slice-has ys n x is)
 
 pub offered-has : (number : ℕ) (node : Node) (call : RootCall) → offer_numbered number node ≡ Some call
     → Has node.offers call
-offered-has number node call is =
-    (elim (number == 0) as (λ b. (if b then None else slice_get node.offers (number - 1)) ≡ Some call
-    → Has node.offers call) [
-      | true ↦ λ none. absurd (cc none)
-      | false ↦ λ some. slice-has node.offers (number - 1) call some
-    ]) is
+offered-has number node call is = grind (arith, common_steps, slice-has)
 
 -- a stranger's call moves its own account
 pub raw-moves : (world : World) (account : ℕ) (form : CallForm) (call : RootCall) (by : ℕ)
     → call_of world account form ≡ Some call → Moves by call → (account == by) ≡ true
-raw-moves world account (CallForm.Deposit amount key) call by is moves =
-    let found = option_map_some (RootCall.Deposit account amount) (key_of world key) call is in
-    elim (subst (Moves by) (sym found.2) moves) [
-      | inl own ↦ own
-      | inr wrong ↦ absurd (false≢true wrong)
-    ]
-raw-moves world account (CallForm.Start coin block) call by is moves =
-    elim (subst (Moves by) (sym (some_same _ call is)) moves) [
-      | inl wrong ↦ absurd (false≢true wrong)
-      | inr own ↦ own
-    ]
-raw-moves world account (CallForm.Exit coin parent shown exit token) call by is moves =
-    elim (subst (Moves by) (sym (some_same _ call is)) moves) [
-      | inl wrong ↦ absurd (false≢true wrong)
-      | inr own ↦ own
-    ]
-raw-moves world account form call by is moves =
-    elim (subst (Moves by) (sym (some_same _ call is)) moves) [
-      | inl wrong ↦ absurd (false≢true wrong)
-      | inr wrong ↦ absurd (false≢true wrong)
-    ]
+raw-moves world account form call by is moves = grind (arith, common_steps, option_map_some, false≢true, some_same)
 
 module _ (events : List Event) (world : World) (keeps : Keeps events world) where
   -- the node that is there
@@ -116,24 +87,12 @@ module _ (events : List Event) (world : World) (keeps : Keeps events world) wher
   -- who a wallet's node is
   pub is-wallet : (n : ℕ) (node : Node) → slice_get world.nodes n ≡ Some node → is_wallet_role node.role ≡ true
       → IsWallet events world.chain.tag n node
-  is-wallet n node is role = by node.role role (node-at n node is).is
-    where
-      by : (r : Role) → is_wallet_role r ≡ true → IsOfRole events world.chain.tag n node r
-          → IsWallet events world.chain.tag n node
-      by Wallet role is = is
-      by Watcher role is = absurd (false≢true role)
-      by Operator role is = absurd (false≢true role)
+  is-wallet n node is role = grind (arith, common_steps, node-at, false≢true)
 
   -- and a watcher's, and its tag
   pub is-watcher : (n : ℕ) (node : Node) → slice_get world.nodes n ≡ Some node → is_watcher_role node.role ≡ true
       → IsWatcher events world.chain.tag n node
-  is-watcher n node is role = by node.role role (node-at n node is).is
-    where
-      by : (r : Role) → is_watcher_role r ≡ true → IsOfRole events world.chain.tag n node r
-          → IsWatcher events world.chain.tag n node
-      by Wallet role is = absurd (false≢true role)
-      by Watcher role is = is
-      by Operator role is = absurd (false≢true role)
+  is-watcher n node is role = grind (arith, common_steps, node-at, false≢true)
 
   pub watcher-tag : (n : ℕ) (node : Node) → slice_get world.nodes n ≡ Some node → is_watcher_role node.role ≡ true
       → (who_is node.notes).tag ≡ world.chain.tag
@@ -189,14 +148,7 @@ module _ (events : List Event) (world : World) (keeps : Keeps events world) wher
   -- the account that a wallet is declared with is new
   pub account-new : (name : List ℕ) (who : WalletIdentity) → may_be_wallet world name who ≡ true
       → (is_declared_account world who.account ≡ false) × (is_caller world who.account ≡ false)
-  account-new name who may =
-      let names = is_new_name world name && nat_lt (length (wallet_nodes world)) MOST_WALLETS in
-      let accounts = not (is_declared_account world who.account || is_caller world who.account) in
-      let keys = not (is_wallet_key world (owner_of who).key || is_wallet_seed world who.seed) in
-      let front = (and_parts (names && accounts) keys may).0 in
-      or_parts (is_declared_account world who.account) (is_caller world who.account)
-      (not-true (is_declared_account world who.account || is_caller world who.account)
-      (and_parts names accounts front).1)
+  account-new name who may = grind (arith, common_steps, and_parts, or_parts, not-true)
 
   -- so no wallet has it
   pub not-held : (account : ℕ) → is_declared_account world account ≡ false → IsHeld (holders world.nodes) account → ⊥
@@ -214,11 +166,7 @@ module _ (dig : List ℕ → List ℕ) (events : List Event) (world : World) (ke
   -- of another node, or of none
   others-keep : (act : Act) → IsActIn world act → (m : ℕ) → IsOther world.nodes (change_of dig world act) m
       → (found : Option Node) → At m found → IsNodeAt ((done dig world act).event ∷ events) world.chain.tag m found
-  others-keep act known m other found =
-      node-same events ((done dig world act).event ∷ events) world.chain.tag m found
-      (owner-same (done dig world act).event events m (said-others dig world act m other))
-      (λ unused. ap (λ (b : Bool). b || list_any (is_command_of m) events)
-      (commands-others dig world first act known m other) ∙ unused)
+  others-keep act known m other found = grind (arith, common_steps, node-same, owner-same, said-others, commands-others)
 
   -- the node of an order, however it ends, and of a crash
   own-keeps : (place : Place) (event : Event) (after : Node) → node_in event ≡ Some place.number
@@ -271,35 +219,7 @@ module _ (dig : List ℕ → List ℕ) (events : List Event) (world : World) (ke
       → IsKeptOwn At (IsNodeAt ((done dig world act).event ∷ events) world.chain.tag) world.nodes
       (change_of dig world act)
   unfolding done
-  own-kept (Adds name (NewWallet who)) known fit = λ none. record {
-    is = record {
-      who = who;
-      identity = wallet-identity world who long known.0 fit;
-      first = refl;
-      tag_is = known.0.tag;
-      account_is = refl;
-      owner = owner-new (length world.nodes) (length world.nodes) (owner_of who) events refl;
-    };
-    offers = λ call none. absurd none;
-  }
-  own-kept (Adds name (NewWatcher account)) known fit = λ none. record {
-    is = record {
-      who = record { tag = world.chain.tag; account = account };
-      identity = record { tag = long; account = fit };
-      first = refl;
-      tag_is = refl;
-      account_is = refl;
-      owner = owner-same Idle events (length world.nodes) refl ∙ none.0;
-    };
-    offers = λ call none. absurd none;
-  }
-  own-kept (Adds name (NewRogue who)) known fit = tt
-  own-kept (Orders place order cut) known fit =
-      ended place order known (end_of cut place.node order (deed_at dig world place order))
-  own-kept (Crashes place) known fit =
-      own-keeps place (Other place.number) (after_crash place.node) refl
-      (record { name = refl; account = refl; role = refl }) (λ body is. is) (λ call none. absurd none)
-  own-kept act known fit = tt
+  own-kept act known fit = grind (arith, common_steps, wallet-identity, owner-new, owner-same, ended, own-keeps)
 
   -- the accounts of a node that changes, but for its role and account
   same-accounts : (place : Place) (after : Node) → IsThere world place → IsSame place.node after
@@ -372,21 +292,7 @@ module _ (dig : List ℕ → List ℕ) (events : List Event) (world : World) (ke
 
 first-keeps : (tag operator most : ℕ) → Keeps (Idle ∷ []) (begun tag operator most).world
 unfolding wallet_owner
-first-keeps tag operator most = record {
-  nodes = nodes;
-  accounts = record {
-    distinct = λ n m account one other. absurd (nobody n account one);
-    known = λ account call none. absurd none;
-  };
-}
-  where
-    nodes : EachNode (IsNodeAt (Idle ∷ []) (padded tag)) (begun tag operator most).world.nodes
-    nodes zero = record { is = refl; offers = λ call none. absurd none }
-    nodes (suc n) = (refl, refl)
-
-    nobody : (n account : ℕ) → slice_get (None ∷ []) n ≡ Some (Some account) → ⊥
-    nobody zero account is = cc is
-    nobody (suc n) account is = cc is
+first-keeps tag operator most = grind (arith, common_steps, begun)
 
 -- what is kept in the world of every run
 pub runs-keep : (dig : List ℕ → List ℕ) (lines : List Line) (run : Run) (world : World)

@@ -1,11 +1,12 @@
 -- In every run, a wallet's notes have each coin and block with which its leaves offered to leave; and each bundle that
 -- they accept has openings.
-use Rattle.std.proofs.Common.{◌≡◌, ◌≢◌, ◌⊎◌, ℕ, ◌^◌, ◌<◌, ◌==◌, ◌&&◌, Bool, true, false, List, [], ◌∷◌, ◌++◌, Option, Some, None, Ok, Err, inl, inr, refl, sym, ap, ◌∙◌, subst}
+use Rattle.std.proofs.Common.{◌≡◌, ◌≢◌, ◌⊎◌, ℕ, ◌^◌, ◌<◌, ◌==◌, ◌&&◌, Bool, true, false, List, [], ◌∷◌, ◌++◌, Option, Some, None, Ok, Err, inl, inr, refl, sym, ap, ◌∙◌, subst, arith}
 use Rattle.std.specs.Prelude.{Result, IfSome, option_map}
 use Rattle.std.specs.List.{All, AllByRecursion}
 use Rattle.std.proofs.lemmas.Bool.{eq-eqb, and_from, or_left, or_right, false≢true, true≢false}
 use Rattle.std.proofs.lemmas.List.Elements.{All-push}
 use Rattle.std.proofs.lemmas.List.Folds.{list_any-append}
+use Rattle.std.proofs.lemmas.Grind.{common_steps}
 use Rattle.plasma_tx.specs.declared.links.Links.{Links}
 use Rattle.plasma_tx.specs.declared.owner.Owner.{Owner}
 use Rattle.plasma_tx.specs.declared.call.RootCall.{RootCall}
@@ -96,25 +97,13 @@ module _ (dig : List ℕ → List ℕ) (wallet : WalletRecords) where
   leaving-more : (note : Note) (me : Owner) (notes : List Note) (c e : ℕ)
       → is_noted c e (state_notes me notes).leaving ≡ true
       → is_noted c e (state_notes me (note ∷ notes)).leaving ≡ true
-  leaving-more (AcceptsNote kept) me notes c e is =
-      ap (λ (n : Notes). is_noted c e n.leaving) (state-accepts me kept notes) ∙ is
-  leaving-more (LeavesWith coin tip) me notes c e is =
-      ap (λ (n : Notes). is_noted c e n.leaving) (state-leaves me coin tip notes)
-      ∙ noted-before c e (state_notes me notes).leaving (coin_tip coin tip ∷ []) is
-  leaving-more (Reclaims coin tip q) me notes c e is =
-      ap (λ (n : Notes). is_noted c e n.leaving) (state-reclaims me coin tip q notes) ∙ is
+  leaving-more note me notes c e is =
+      grind (arith, common_steps, state-accepts, state-leaves, noted-before, state-reclaims)
 
   -- one more note leaves what was noted
   one-more : (body : List ℕ) (added : Note) → AddsNote dig wallet.notes added body → HasOpenings added
       → StillNoted dig wallet (with_note wallet body)
-  one-more body added adds has = record {
-    openings = λ all.
-        subst (λ (notes : List Note). All Opened (accepted_of notes)) (sym adds.1)
-        (opened-more added has (notes_of dig wallet.notes) all);
-    leaving = λ c e is.
-        ap (λ (n : Notes). is_noted c e n.leaving) (noted-grow dig wallet body added adds)
-        ∙ leaving-more added (owner_of (who wallet)) (notes_of dig wallet.notes) c e is;
-  }
+  one-more body added adds has = grind (arith, common_steps, opened-more, noted-grow, leaving-more)
 
   -- and so does what a command adds
   still-noted : (note leaf : Option (List ℕ)) → Noting dig wallet note
@@ -359,7 +348,4 @@ module _ (dig : List ℕ → List ℕ) (s : Said) (world : World) (feeds : Feeds
       wallet-left dig s world.chain.log feeds.few n (wallet_of node) kept have order fit
   order-left (NodeOrder.Watcher order) at fit = absurd (false≢true (sym (wallet-alone node.role role).0 ∙ at))
   order-left (NodeOrder.Operator order) at fit = absurd (false≢true (sym (wallet-alone node.role role).1 ∙ at))
-  order-left NodeOrder.Open at fit = record {
-    still = still-noted dig (wallet_of node) None None (NoNote refl);
-    left = λ m call is. absurd (cc is);
-  }
+  order-left NodeOrder.Open at fit = grind (arith, common_steps, still-noted)

@@ -1,9 +1,10 @@
 -- A wallet's notes have each coin and block with which it offered to leave, and each bundle that they accept has
 -- openings: what one more event and one more note leave of it.
-use Rattle.std.proofs.Common.{◌≡◌, ◌≢◌, ℕ, ◌==◌, ◌&&◌, Bool, true, false, if◌then◌else◌, List, [], ◌∷◌, None, inl, inr, refl, sym, ap, ◌∙◌, subst}
+use Rattle.std.proofs.Common.{◌≡◌, ◌≢◌, ℕ, ◌==◌, Bool, true, false, if◌then◌else◌, List, [], ◌∷◌, None, refl, sym, ap, ◌∙◌, subst, arith}
 use Rattle.std.specs.List.{All, list_any}
 use Rattle.std.proofs.lemmas.Bool.{cases_eq, eqb-true, ne_eqb, and_parts, or_cases, or_parts}
 use Rattle.std.proofs.lemmas.List.Elements.{All-nil}
+use Rattle.std.proofs.lemmas.Grind.{common_steps}
 use Rattle.plasma_tx.specs.declared.call.RootCall.{RootCall}
 use Rattle.wallet_core.specs.declared.notes.CoinTip.{CoinTip}
 use Rattle.coin_history.specs.declared.bundle.Bundle.{Bundle}
@@ -12,7 +13,7 @@ use Rattle.node_rules.specs.WalletCommandLaws.{HaveOpenings}
 use Rattle.node_rules.specs.WalletRecords.{notes_of, accepted_of}
 use Rattle.node_rules.specs.Wallet.{WalletRecords, noted}
 use Rattle.node_replies.specs.Orders.{exit_block}
-use Rattle.world_rules.specs.Events.{Event, Watches, Leaves, Seals, coin_of_call, node_in, is_command_of}
+use Rattle.world_rules.specs.Events.{Event, Leaves, coin_of_call, node_in, is_command_of}
 use Rattle.world_rules.specs.World.{Node, wallet_of}
 use Rattle.world_rules.specs.Steps.{without_offers}
 use Rattle.world_laws.specs.Legal.{left_by, is_left}
@@ -31,12 +32,7 @@ left-plain event events n none = refl
 pub left-other : (event : Event) (events : List Event) (n : ℕ) → ((call : RootCall) → event ≡ Leaves n call → ⊥)
     → left_by (event ∷ events) n ≡ left_by events n
 unfolding left_by
-left-other (Leaves v call) events n other = elim (cases_eq v n) [
-  | inl same ↦ absurd (other call (ap (λ (m : ℕ). Leaves m call) same))
-  | inr apart ↦
-      ap (λ (b : Bool). if b then call ∷ left_by events n else left_by events n) (ne_eqb v n apart)
-]
-left-other event events n other = refl
+left-other event events n other = grind (arith, common_steps, cases_eq, ne_eqb)
 
 -- a command of another node, or none
 pub left-apart : (event : Event) (events : List Event) (n : ℕ) → is_command_of n event ≡ false
@@ -54,24 +50,7 @@ module _ (notes : List CoinTip) (events : List Event) (n c e : ℕ)
       → is_noted (coin_of_call call) (exit_block call) notes ≡ true)
       → is_left (left_by (event ∷ events) n) c e ≡ true → is_noted c e notes ≡ true
   unfolding left_by
-  left-more (Leaves v call) new is = by (v == n) is
-    where
-      here : ((coin_of_call call == c) && (exit_block call == e)) ≡ true → is_noted c e notes ≡ true
-      here is =
-          let parts = and_parts (coin_of_call call == c) (exit_block call == e) is in
-          ap (λ (k : ℕ). is_noted k e notes) (sym (eqb-true (coin_of_call call) c parts.0))
-          ∙ ap (λ (k : ℕ). is_noted (coin_of_call call) k notes) (sym (eqb-true (exit_block call) e parts.1))
-          ∙ new v call refl
-
-      by : (b : Bool) → is_left (if b then call ∷ left_by events n else left_by events n) c e ≡ true
-          → is_noted c e notes ≡ true
-      by true is =
-          elim (or_cases ((coin_of_call call == c) && (exit_block call == e)) (is_left (left_by events n) c e) is) [
-            | inl one ↦ here one
-            | inr others ↦ before others
-          ]
-      by false is = before is
-  left-more event new is = before is
+  left-more event new is = grind (arith, common_steps, and_parts, eqb-true, or_cases)
 
 -- a node with no command left with nothing
 pub unused-left : (events : List Event) (n : ℕ) → list_any (is_command_of n) events ≡ false → left_by events n ≡ []
@@ -96,11 +75,7 @@ pub record NodeLeft (dig : List ℕ → List ℕ) (events : List Event) (n : ℕ
 pub node-more : (dig : List ℕ → List ℕ) (events : List Event) (event : Event) (n : ℕ) (node after : Node)
     → StillLeft dig (wallet_of node) (wallet_of after) event → NodeLeft dig events n node
     → NodeLeft dig (event ∷ events) n after
-node-more dig events event n node after more left = record {
-  openings = more.still.openings left.openings;
-  left = λ c e. left-more (noted dig (wallet_of after)).leaving events n c e
-      (λ is. more.still.leaving c e (left.left c e is)) event more.left;
-}
+node-more dig events event n node after more left = grind (arith, common_steps, left-more)
 
 -- a node that is declared has no notes but its identity
 pub bare-openings : (dig : List ℕ → List ℕ) (wallet : WalletRecords) (identity : List ℕ) → wallet.notes ≡ identity ∷ []
@@ -112,7 +87,4 @@ bare-openings dig wallet identity is =
 
 -- a cut's event is no leave
 pub cut-other : (n : ℕ) (event : Event) (m : ℕ) (call : RootCall) → without_offers n event ≡ Leaves m call → ⊥
-cut-other n (Watches v calls) m call is = cc is
-cut-other n (Leaves v start) m call is = cc is
-cut-other n (Seals start) m call is = cc is
-cut-other n event m call is = cc is
+cut-other n event m call is = grind (arith, common_steps)

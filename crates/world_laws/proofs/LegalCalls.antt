@@ -1,7 +1,8 @@
 -- Calls that are entered and wallets that are declared are legal.
-use Rattle.std.proofs.Common.{◌≡◌, ◌⊎◌, ℕ, Bool, true, false, if◌then◌else◌, List, length, Option, Some, None, inl, inr, refl, sym, ap, ◌∙◌, subst, slice_get}
+use Rattle.std.proofs.Common.{◌≡◌, ◌⊎◌, ℕ, Bool, true, false, if◌then◌else◌, List, length, Some, inl, inr, refl, sym, ap, ◌∙◌, subst, slice_get, arith}
 use Rattle.std.specs.List.{Contains, list_any}
 use Rattle.std.proofs.lemmas.Bool.{eqb-true, true≢false, false≢true}
+use Rattle.std.proofs.lemmas.Grind.{common_steps}
 use Rattle.plasma_tx.specs.declared.owner.Owner.{Owner}
 use Rattle.plasma_tx.specs.declared.call.RootCall.{RootCall}
 use Rattle.plasma_tx.specs.declared.answer.Answer.{Answer}
@@ -11,7 +12,7 @@ use Rattle.node_rules.specs.declared.identity.WalletIdentity.{WalletIdentity}
 use Rattle.node_rules.specs.WalletRecords.{owner_of}
 use Rattle.watch_duty.proofs.Members.{contains-has, has-contains}
 use Rattle.world_rules.specs.Events.{Event, Joins, Bounces, log_of, wallet_owner, offers_of}
-use Rattle.world_rules.specs.World.{Role, Wallet, Watcher, Operator, Node, World, is_wallet_role, owner_of_node}
+use Rattle.world_rules.specs.World.{Node, World, is_wallet_role, owner_of_node}
 use Rattle.world_rules.specs.Declarations.{is_declared_account, is_caller, may_be_wallet}
 use Rattle.world_rules.specs.Steps.{event_of_call, Run, events_of}
 use Rattle.world_rules.proofs.RunLaws.{logs_are_of_events}
@@ -23,7 +24,7 @@ use Rattle.world_laws.proofs.Lists.{some_same, none_some}
 use Rattle.world_rules.specs.Acts.{Origin, Plain, Deposits, Raw, Offered}
 use Rattle.world_rules.specs.Evidence.{IsFrom}
 use Rattle.world_laws.proofs.Holders.{holders, IsHeld, held-wallet, IsKnown, unknown-none}
-use Rattle.world_laws.proofs.Identities.{IsOfRole, wallet-node}
+use Rattle.world_laws.proofs.Identities.{wallet-node}
 use Rattle.world_laws.proofs.Keeps.{Keeps, plain-moves, offered-has, raw-moves, holder-is, held-by, node-at, not-there, next-unknown, is-offer, account-new, not-held, runs-keep}
 use Rattle.world_laws.proofs.Offers.{start-any}
 use Rattle.world_laws.proofs.OwnExits.{offered_left}
@@ -52,25 +53,7 @@ module _ (events : List Event) (world : World) (behind : IsBehind events world) 
     pub account : node.account ≡ me.account
 
   pub own-node : (w : ℕ) (me : Owner) → wallet_owner events w ≡ Some me → IsOwnNode w me
-  own-node w me me_is = by (slice_get world.nodes w) refl
-    where
-      at-role : (node : Node) → slice_get world.nodes w ≡ Some node → (role : Role) → node.role ≡ role
-          → IsOfRole events world.chain.tag w node role → IsOwnNode w me
-      at-role node node_is Wallet role is =
-          let known = wallet-node events world.chain.tag w node is in
-          let same : owner_of_node node ≡ me = some_same (owner_of_node node) me (sym known.0 ∙ me_is) in record {
-            node = node;
-            node_is = node_is;
-            role = ap is_wallet_role role;
-            me_is = same;
-            account = sym known.1 ∙ ap (λ (o : Owner). o.account) same;
-          }
-      at-role node node_is Watcher role is = absurd (none_some me (sym is.owner ∙ me_is))
-      at-role node node_is Operator role is = absurd (none_some me (sym is ∙ me_is))
-
-      by : (found : Option Node) → slice_get world.nodes w ≡ found → IsOwnNode w me
-      by None none = absurd (none_some me (sym (not-there events world behind.keeps w none).0 ∙ me_is))
-      by (Some node) is = at-role node is node.role refl (node-at events world behind.keeps w node is).is
+  own-node w me me_is = grind (arith, common_steps, wallet-node, some_same, none_some, not-there, node-at)
 
   own-held : (w : ℕ) (me : Owner) → wallet_owner events w ≡ Some me → IsHeld (holders world.nodes) me.account
   own-held w me me_is =

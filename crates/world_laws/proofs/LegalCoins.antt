@@ -1,11 +1,12 @@
 -- What a wallet's accepts, sends and reclaims are: each is legal after the events that say what its records are.
-use Rattle.std.proofs.Common.{◌≡◌, ℕ, zero, suc, ◌^◌, ◌<◌, ◌≤◌, ◌==◌, ◌&&◌, ◌||◌, not, nat_lt, Bool, true, false, if◌then◌else◌, List, [], ◌∷◌, ◌++◌, length, map, Option, Some, None, Ok, Err, inl, inr, refl, sym, ap, ◌∙◌, subst, slice_get}
+use Rattle.std.proofs.Common.{◌≡◌, ℕ, zero, suc, ◌^◌, ◌<◌, ◌≤◌, ◌==◌, ◌&&◌, not, Bool, true, false, List, [], ◌∷◌, ◌++◌, map, Option, Some, None, Ok, inl, refl, sym, ap, ◌∙◌, subst, slice_get, arith, rules}
 use Rattle.std.specs.Prelude.{Result, IfSome, reverse, unwrap_or}
 use Rattle.std.specs.List.{list_any}
 use Rattle.std.specs.Option.{option_map_or}
 use Rattle.std.specs.Result.{result_ok}
 use Rattle.std.proofs.lemmas.Bool.{cases_eq, eqb-true, eq-eqb, ne_eqb, and_parts, not-true, not-false, ltb-false, false_from_ne_true, false≢true, true≢false}
 use Rattle.std.proofs.lemmas.List.{reverse-append, length-reverse}
+use Rattle.std.proofs.lemmas.Grind.{common_steps}
 use Rattle.lms_sign.specs.Tree.{signature_of}
 use Rattle.node_journal.specs.Effect.{first_cause}
 use Rattle.plasma_tx.specs.declared.owner.Owner.{Owner}
@@ -15,33 +16,31 @@ use Rattle.plasma_tx.specs.declared.call.RootCall.{RootCall}
 use Rattle.plasma_tx.specs.declared.views.ExitView.{ExitView}
 use Rattle.plasma_tx.specs.Links.{last_owner_of}
 use Rattle.plasma_tx.specs.Spelling.{IsOwner, IsBody, body_text, body_at_start}
-use Rattle.plasma_tx.specs.Views.{blocks, coin_at, exits_of, is_withdrawn}
+use Rattle.plasma_tx.specs.Views.{blocks, exits_of, is_withdrawn}
 use Rattle.plasma_tx.specs.Shown.{Rules, tests_by}
 use Rattle.coin_history.specs.declared.bundle.Bundle.{Bundle}
-use Rattle.coin_history.specs.declared.refusal.HistoryRefusal.{HistoryRefusal}
 use Rattle.coin_history.specs.Bundles.{bundle_in}
 use Rattle.coin_history.specs.Checking.{absence_of}
 use Rattle.coin_history.specs.History.{IsHistory, IsAbsent}
 use Rattle.coin_history.proofs.HistoryAbsent.{absences_are_found}
 use Rattle.wallet_core.specs.declared.notes.LeafRecord.{LeafRecord}
-use Rattle.wallet_core.specs.declared.coin_state.CoinState.{CoinState}
-use Rattle.wallet_core.specs.declared.coin_state.CoinState.TheVariants.{Nothing, Sending, Leaving, Held}
+use Rattle.wallet_core.specs.declared.coin_state.CoinState.TheVariants.{Sending, Held}
 use Rattle.wallet_core.specs.State.{is_noted, is_owner, spends_tip, sends_by}
 use Rattle.wallet_core.proofs.StateLaws.{held_is, sending_is, kept_coins_are_held}
 use Rattle.node_rules.specs.declared.answers.Accepted.{Accepted}
 use Rattle.node_rules.specs.declared.answers.Sent.{Sent}
 use Rattle.node_rules.specs.declared.answers.Reclaimed.{Reclaimed}
 use Rattle.node_rules.specs.declared.refusal.WalletRefusal.{WalletRefusal}
-use Rattle.node_rules.specs.Kept.{kept_of, most_note, links_handed, first_block, standing_block}
-use Rattle.node_rules.specs.WalletRecords.{Accepts, Reclaims, note_text, owner_of, notes_of, secret_of, leaves_in}
+use Rattle.node_rules.specs.Kept.{links_handed, first_block}
+use Rattle.node_rules.specs.WalletRecords.{owner_of, notes_of, secret_of, leaves_in}
 use Rattle.node_rules.specs.WalletCommandLaws.{sent_body}
-use Rattle.node_rules.specs.Wallet.{WalletRecords, WalletEffect, answers, notes_it, unless, who, noted, used, coin_state, standing_causes, accept_causes, accept_taken, accept_by, accept_effect, sent_by, send_effect, last_of, reclaim_shown, reclaim_last, reclaim_from, reclaim_by, reclaim_effect}
+use Rattle.node_rules.specs.Wallet.{WalletRecords, WalletEffect, unless, who, noted, used, coin_state, standing_causes, accept_causes, accept_effect, sent_by, send_effect, last_of, reclaim_from, reclaim_effect}
 use Rattle.node_rules.proofs.WalletGrow.{wallet-parts}
 use Rattle.node_rules.proofs.WalletTips.{tag-long, tip-fits}
 use Rattle.node_rules.proofs.WalletRole.{held-tip}
-use Rattle.world_rules.specs.Events.{Event, log_of, wallet_owner, accepted, bound_by, leaf_at, signed_away_by, is_sent_from, is_bundle}
+use Rattle.world_rules.specs.Events.{Event, log_of, wallet_owner, accepted, bound_by, leaf_at, signed_away_by, is_sent_from}
 use Rattle.world_rules.specs.OrderEvents.{bundle_read}
-use Rattle.world_rules.specs.Safety.{was_deposited, holds_with, holds}
+use Rattle.world_rules.specs.Safety.{holds_with, holds}
 use Rattle.world_rules.specs.Laws.{AreKept}
 use Rattle.world_rules.proofs.Said.{said}
 use Rattle.world_rules.proofs.HeldSame.{are_kept}
@@ -59,12 +58,7 @@ use Rattle.world_laws.proofs.AcceptsShown.{node_with}
 
 first-none : {E : Type 0} (cause : Bool × E) (causes : List (Bool × E)) → first_cause (cause ∷ causes) ≡ None
     → (cause.0 ≡ false) × (first_cause causes ≡ None)
-first-none {E} cause causes is = at cause.0 refl is
-  where
-    at : (b : Bool) → cause.0 ≡ b → (if b then Some cause.1 else first_cause causes) ≡ None
-        → (cause.0 ≡ false) × (first_cause causes ≡ None)
-    at true holds wrong = absurd (cc wrong)
-    at false holds none = (holds, none)
+first-none {E} cause causes is = grind (arith, common_steps)
 
 -- no exit of a coin stands
 standing-none : (exits : List ExitView) (others : List (Bool × WalletRefusal))
@@ -80,18 +74,7 @@ standing-alone (exit ∷ exits) none = absurd (cc none)
 accept-cleared : (links : Links) (me : Owner) (log : List RootCall) → first_cause (accept_causes me log links) ≡ None
     → (is_owner (last_owner_of links) me ≡ true) × (is_withdrawn log links.coin ≡ false)
     × (exits_of log links.coin ≡ [])
-accept-cleared links me log none =
-    let size = length (note_text (Accepts (kept_of links))) in
-    let long : List (Bool × WalletRefusal) = (nat_lt most_note size, WalletRefusal.NoteTooLong size) ∷ [] in
-    let standing : List (Bool × WalletRefusal) = standing_causes (standing_block log links.coin) ++ long in
-    let withdrawn : Bool × WalletRefusal = (is_withdrawn log links.coin, WalletRefusal.Withdrawn) in
-    let foreign : Bool × WalletRefusal = (not (is_owner (last_owner_of links) me), WalletRefusal.NotMine) in
-    let first = first-none foreign (withdrawn ∷ standing) none in
-    let second = first-none withdrawn standing first.1 in (
-      not-false (is_owner (last_owner_of links) me) first.0,
-      second.0,
-      standing-none (exits_of log links.coin) long second.1,
-    )
+accept-cleared links me log none = grind (arith, common_steps, first-none, not-false, standing-none)
 
 -- what an answer that isn't refused was not refused for
 unless-ok : {A : Type 0} (failed : Option WalletRefusal) (effect : WalletEffect (Result A WalletRefusal)) (answer : A)
@@ -110,17 +93,18 @@ leaf-got : (bodies : List Body) (q : ℕ) → slice_get (reverse bodies) q ≡ l
 unfolding leaf_at
 leaf-got [] q = refl
 leaf-got (body ∷ bodies) q =
-    let front : slice_get (reverse (body ∷ bodies)) q ≡ slice_get (reverse bodies ++ body ∷ []) q =
-    ap (λ (l : List Body). slice_get l q) (reverse-append (body ∷ []) bodies) in
-    let long : length (reverse bodies) ≡ length bodies = length-reverse bodies in
-    elim (cases_eq q (length bodies)) [
-      | inl here ↦
-          front ∙ ap (slice_get (reverse bodies ++ body ∷ [])) (here ∙ sym long) ∙ push-same (reverse bodies) body
-          ∙ ap (λ (b : Bool). if b then Some body else leaf_at q bodies) (sym (eq-eqb q (length bodies) here))
-      | inr apart ↦
-          front ∙ push-other (reverse bodies) body q (λ same. apart (sym same ∙ long)) ∙ leaf-got bodies q
-          ∙ ap (λ (b : Bool). if b then Some body else leaf_at q bodies) (sym (ne_eqb q (length bodies) apart))
-    ]
+    grind (
+      arith,
+      common_steps,
+      leaf-got bodies q,
+      reverse-append,
+      length-reverse,
+      cases_eq,
+      push-same,
+      eq-eqb,
+      push-other,
+      ne_eqb,
+    )
 
 -- the body of a leaf is that of its record
 body-got : (leaves : List LeafRecord) (q : ℕ) (leaf : LeafRecord) → slice_get leaves q ≡ Some leaf
@@ -133,11 +117,7 @@ body-got (one ∷ leaves) (suc q) leaf is = body-got leaves q leaf is
 
 held-unsent : (log : List RootCall) (owner : Option Owner) (bodies : List Body) (bundles : List Bundle) (c e : ℕ)
     → holds_with log owner bodies bundles c e ≡ true → is_sent_from bodies c e ≡ false
-held-unsent log None bodies bundles c e is = absurd (false≢true is)
-held-unsent log (Some me) bodies bundles c e is =
-    let came = was_deposited me e (coin_at log c) || list_any (is_bundle c e) bundles in
-    let front = and_parts (came && not (is_sent_from bodies c e)) (not (is_withdrawn log c)) is in
-    not-true (is_sent_from bodies c e) (and_parts came (not (is_sent_from bodies c e)) front.0).1
+held-unsent log owner bodies bundles c e is = grind (arith, common_steps, false≢true, and_parts, not-true)
 
 -- ---- a wallet's node
 
@@ -183,16 +163,7 @@ module _ (dig : List ℕ → List ℕ) (rules : Rules) (events : List Event) (lo
   pub legal-accepted : (bytes : List ℕ) (taken : Accepted) → (accept_effect dig wallet log bytes).answer ≡ Ok taken
       → LegalAccept (tests_by dig) rules events n (bundle_read bytes)
   unfolding accept_effect
-  legal-accepted bytes taken is = by (links_handed dig (who wallet).tag log bytes) refl is
-    where
-      by : (handed : Result Links HistoryRefusal) → links_handed dig (who wallet).tag log bytes ≡ handed
-          → (accept_by log (noted dig wallet) handed).answer ≡ Ok taken
-          → LegalAccept (tests_by dig) rules events n (bundle_read bytes)
-      by (Err why) handed is = absurd (cc is)
-      by (Ok links) handed is =
-          accepted-links bytes links handed
-          (unless-ok (first_cause (accept_causes (noted dig wallet).me log links))
-          (accept_taken (noted dig wallet) links) taken is).0
+  legal-accepted bytes taken is = grind (arith, common_steps, accepted-links, unless-ok)
 
   -- ---- sends
 
@@ -249,42 +220,7 @@ module _ (dig : List ℕ → List ℕ) (rules : Rules) (events : List Event) (lo
   reclaimed : (bundle : Bundle) (tip q : ℕ) (taken : Reclaimed)
       → (reclaim_from dig wallet log bundle (Sending tip q)).answer ≡ Ok taken
       → (last : ℕ) × IsReclaimed bundle taken tip q last
-  reclaimed bundle tip q taken is = by_last (last_of (leaves_in wallet.leaves) q) refl is
-    where
-      made : Reclaimed
-      made = record { coin = bundle.coin; tip = tip; q = q }
-
-      by_absence : (last : ℕ) → last_of (leaves_in wallet.leaves) q ≡ Some last → last ≤ blocks log
-          → (absent : Result Unit HistoryRefusal) → absence_of (tests_by dig) log tip last bundle ≡ absent
-          → (reclaim_shown log made absent).answer ≡ Ok taken → IsReclaimed bundle taken tip q last
-      by_absence last last_is reached (Err why) absent is = absurd (cc is)
-      by_absence last last_is reached (Ok done) absent is =
-          let causes = standing_causes (standing_block log bundle.coin) in
-          let passed = unless-ok (first_cause causes) (notes_it (Ok made) (note_text (Reclaims bundle.coin tip q)))
-          taken is in
-          record {
-            taken_is = cc passed.1;
-            last_is = last_is;
-            reached = reached;
-            absent = absent;
-            none_stands = standing-alone (exits_of log bundle.coin) passed.0;
-          }
-
-      by_late : (last : ℕ) → last_of (leaves_in wallet.leaves) q ≡ Some last
-          → (late : Bool) → nat_lt (blocks log) last ≡ late
-          → (if late then answers (Err (WalletRefusal.NotYet last))
-          else reclaim_shown log made (absence_of (tests_by dig) log tip last bundle)).answer ≡ Ok taken
-          → IsReclaimed bundle taken tip q last
-      by_late last last_is true late is = absurd (cc is)
-      by_late last last_is false late is =
-          by_absence last last_is (ltb-false (blocks log) last late)
-          (absence_of (tests_by dig) log tip last bundle) refl is
-
-      by_last : (found : Option ℕ) → last_of (leaves_in wallet.leaves) q ≡ found
-          → (reclaim_last dig log bundle made found).answer ≡ Ok taken
-          → (last : ℕ) × IsReclaimed bundle taken tip q last
-      by_last None none is = absurd (cc is)
-      by_last (Some last) some is = (last, by_late last some (nat_lt (blocks log) last) refl is)
+  reclaimed bundle tip q taken is = grind (arith, common_steps, unless-ok, standing-alone, ltb-false)
 
   -- the leaf that sends a coin from a tip
   sending-leaf : (coin tip q : ℕ) → coin_state dig wallet log coin ≡ Sending tip q
@@ -337,23 +273,4 @@ module _ (dig : List ℕ → List ℕ) (rules : Rules) (events : List Event) (lo
   pub legal-reclaimed : (bytes : List ℕ) (taken : Reclaimed) → (reclaim_effect dig wallet log bytes).answer ≡ Ok taken
       → LegalReclaim (tests_by dig) events n taken.q (bundle_read bytes)
   unfolding reclaim_effect
-  legal-reclaimed bytes taken is = by (bundle_in bytes) refl is
-    where
-      by_state : (bundle : Bundle) → bundle_in bytes ≡ Ok bundle → (state : CoinState)
-          → coin_state dig wallet log bundle.coin ≡ state
-          → (reclaim_from dig wallet log bundle state).answer ≡ Ok taken
-          → LegalReclaim (tests_by dig) events n taken.q bundle
-      by_state bundle reads (Sending tip q) state is =
-          let found = reclaimed bundle tip q taken is in
-          reclaim-legal bytes bundle taken tip q found.0 reads state found.1
-      by_state bundle reads Nothing state is = absurd (cc is)
-      by_state bundle reads (Leaving tip) state is = absurd (cc is)
-      by_state bundle reads (Held tip) state is = absurd (cc is)
-
-      by : (read : Result Bundle HistoryRefusal) → bundle_in bytes ≡ read
-          → (reclaim_by dig wallet log read).answer ≡ Ok taken
-          → LegalReclaim (tests_by dig) events n taken.q (bundle_read bytes)
-      by (Err why) reads is = absurd (cc is)
-      by (Ok bundle) reads is =
-          subst (LegalReclaim (tests_by dig) events n taken.q) (sym (reads-as bytes bundle reads))
-          (by_state bundle reads (coin_state dig wallet log bundle.coin) refl is)
+  legal-reclaimed bytes taken is = grind (arith, common_steps, reclaimed, reclaim-legal, reads-as)

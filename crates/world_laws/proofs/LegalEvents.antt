@@ -1,18 +1,14 @@
 -- Each event of a run is legal after those before it, but for those that are left: what a wallet does with its coins.
 -- Where these are legal too, all events of every run are.
-use Rattle.std.proofs.Common.{◌≡◌, ℕ, true, List, [], ◌∷◌, Some, None, Ok, Err, refl, sym, ap, ◌∙◌, subst, slice_get}
-use Rattle.std.specs.Prelude.{Result}
-use Rattle.plasma_tx.specs.declared.links.Links.{Links}
+use Rattle.std.proofs.Common.{◌≡◌, ℕ, true, List, [], ◌∷◌, Some, None, Ok, refl, sym, subst, slice_get, arith, rules}
+use Rattle.std.proofs.lemmas.Grind.{common_steps}
 use Rattle.plasma_tx.specs.declared.call.RootCall.{RootCall}
 use Rattle.plasma_tx.specs.Shown.{Tests, Rules, tests_by, rules_of}
-use Rattle.coin_history.specs.declared.refusal.HistoryRefusal.{HistoryRefusal}
-use Rattle.coin_history.specs.History.{IsHistory}
 use Rattle.schedule_text.specs.declared.line.Line.{Line}
 use Rattle.node_rules.specs.declared.answers.Accepted.{Accepted}
-use Rattle.node_rules.specs.Kept.{links_handed}
-use Rattle.node_rules.specs.Watcher.{who_is, guards_in, guard_by, guard_effect}
+use Rattle.node_rules.specs.Watcher.{who_is, guard_effect}
 use Rattle.node_replies.specs.declared.order.NodeOrder.{NodeOrder}
-use Rattle.world_rules.specs.Events.{Event, Accepts, Binds, TakesBack, Watches, Leaves, Seals, Idle, log_of, wallet_owner, accepted}
+use Rattle.world_rules.specs.Events.{Event, Accepts, Binds, TakesBack, Idle, log_of, wallet_owner, accepted}
 use Rattle.world_rules.specs.World.{Node, World, wallet_of, is_wallet_role, is_watcher_role}
 use Rattle.world_rules.specs.Deeds.{Deed}
 use Rattle.world_rules.specs.OrderEvents.{bundle_read}
@@ -58,19 +54,7 @@ pub legal-guarded : (dig : List ℕ → List ℕ) (rules : Rules) (events : List
     → LegalGuard (tests_by dig) rules events n (bundle_read bytes)
 unfolding guard_effect
 legal-guarded dig rules events log log_is n notes owner tag_is bytes taken is =
-    by (links_handed dig (who_is notes).tag log bytes) refl is
-  where
-    by : (handed : Result Links HistoryRefusal) → links_handed dig (who_is notes).tag log bytes ≡ handed
-        → (guard_by log (guards_in dig notes) handed).answer ≡ Ok taken
-        → LegalGuard (tests_by dig) rules events n (bundle_read bytes)
-    by (Err why) handed is = absurd (cc is)
-    by (Ok links) handed is = record {
-      no_wallet = owner;
-      links = links;
-      history = subst (λ l. IsHistory (tests_by dig) rules l (bundle_read bytes) links) log_is
-          (handed-history dig rules log bytes links
-          (ap (λ tag. links_handed dig tag log bytes) (sym tag_is) ∙ handed));
-    }
+    grind (arith, common_steps, handed-history)
 
 module _ (dig : List ℕ → List ℕ) (events : List Event) (world : World) (behind : IsBehind events world)
     (kept : KeptWorld dig events world) (noted : AreNoted dig events world) where
@@ -115,10 +99,7 @@ module _ (dig : List ℕ → List ℕ) (events : List Event) (world : World) (be
 
   -- in a cut too
   legal-without : (n : ℕ) (event : Event) → P event → P (without_offers n event)
-  legal-without n (Watches m calls) legal = λ left. tt
-  legal-without n (Leaves m call) legal = λ left. tt
-  legal-without n (Seals call) legal = λ left. tt
-  legal-without n event legal = legal
+  legal-without n event legal = grind (arith, common_steps)
 
   legal-end : (n : ℕ) (deed : Deed) → P deed.gives.event → (end : End) → P (event_after n deed end)
   legal-end n deed legal Whole = legal

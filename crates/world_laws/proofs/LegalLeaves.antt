@@ -1,10 +1,11 @@
 -- What a wallet's leave and its watch offer is legal: the start of the exit of a coin at its top, and what is due for
 -- the coins that it holds there.
-use Rattle.std.proofs.Common.{◌≡◌, ◌≢◌, ℕ, zero, suc, ◌+◌, ◌<◌, ◌≤◌, List, [], ◌∷◌, Option, Some, None, Ok, Err, inl, inr, refl, sym, ap, ◌∙◌, subst, arith}
+use Rattle.std.proofs.Common.{◌≡◌, ◌≢◌, ℕ, zero, suc, ◌+◌, ◌<◌, ◌≤◌, List, [], ◌∷◌, Option, Some, None, Ok, Err, inl, inr, refl, sym, ap, ◌∙◌, subst, arith, rules}
 use Rattle.std.specs.Prelude.{Result}
 use Rattle.std.specs.List.{Contains, range_with_len}
 use Rattle.std.specs.Option.{option_map_or}
 use Rattle.std.proofs.lemmas.Bool.{cases_eq, ne_eqb}
+use Rattle.std.proofs.lemmas.Grind.{common_steps}
 use Rattle.plasma_tx.specs.declared.owner.Owner.{Owner}
 use Rattle.plasma_tx.specs.declared.links.Links.{Links}
 use Rattle.plasma_tx.specs.declared.call.RootCall.{RootCall}
@@ -23,7 +24,7 @@ use Rattle.node_rules.specs.Kept.{kept_links}
 use Rattle.node_rules.specs.Watcher.{due_for_kept}
 use Rattle.node_rules.specs.WalletRecords.{owner_of}
 use Rattle.wallet_core.specs.Laws.{IsTip}
-use Rattle.node_rules.specs.Wallet.{WalletRecords, who, noted, coin_state, kept_at, links_at, start_of, exit_start, leave_from, leave_effect, due_at, due_in, watch_answer}
+use Rattle.node_rules.specs.Wallet.{WalletRecords, who, noted, coin_state, kept_at, links_at, start_of, exit_start, leave_effect, due_at, due_in, watch_answer}
 use Rattle.node_rules.proofs.WalletRole.{links-some}
 use Rattle.watch_duty.proofs.Members.{Has, has-contains, contains-has, has-flat_map}
 use Rattle.world_rules.specs.Events.{Event, log_of, wallet_owner, accepted}
@@ -56,12 +57,7 @@ range-has a (suc n) x low high = elim (cases_eq a x) [
 ]
 
 coin-among : (log : List RootCall) (c : ℕ) → coin_at log c ≢ None → Has (range_with_len 1 (coins log)) c
-coin-among log c there = by (coin_at log c) refl
-  where
-    by : (made : Option CoinView) → coin_at log c ≡ made → Has (range_with_len 1 (coins log)) c
-    by None none = absurd (there none)
-    by (Some made) some =
-        range-has 1 (coins log) c (coin-first log c made some) (omega (arith, coin_at-le log c made some))
+coin-among log c there = grind (arith, common_steps, range-has, coin-first, coin_at-le)
 
 -- a start that is answered
 as_answer : RootCall → Result RootCall WalletRefusal
@@ -143,14 +139,7 @@ module _ (dig : List ℕ → List ℕ) (rules : Rules) (events : List Event) (lo
   pub legal-left : (c : ℕ) (call : RootCall) → (leave_effect dig wallet log c).answer ≡ Ok call
       → LegalLeave rules events n call
   unfolding leave_effect
-  legal-left c call is = by (coin_state dig wallet log c) refl is
-    where
-      by : (state : CoinState) → coin_state dig wallet log c ≡ state
-          → (leave_from dig wallet log c state).answer ≡ Ok call → LegalLeave rules events n call
-      by Nothing none is = absurd (cc is)
-      by (Sending e q) sends is = absurd (cc is)
-      by (Leaving e) leaves is = leave-at c e call (inr leaves) is
-      by (Held e) holds is = leave-at c e call (inl holds) is
+  legal-left c call is = grind (arith, common_steps, leave-at)
 
   -- ---- watches
 

@@ -1,17 +1,13 @@
 -- What a watcher's watch offers is legal: it is what is due for the coins that it guards.
-use Rattle.std.proofs.Common.{◌≡◌, ℕ, ◌==◌, true, List, [], ◌∷◌, slice_get, Option, Some, None, inl, inr, refl, sym, ap, ◌∙◌, subst}
-use Rattle.std.specs.Option.{option_map, option_map_or}
+use Rattle.std.proofs.Common.{◌≡◌, ℕ, true, List, [], ◌∷◌, slice_get, Option, Some, None, inl, inr, refl, sym, ap, ◌∙◌, subst, arith}
 use Rattle.std.specs.List.{Contains, list_any, flat_map}
 use Rattle.std.proofs.lemmas.Bool.{and_parts, eqb-true}
+use Rattle.std.proofs.lemmas.Grind.{common_steps}
 use Rattle.plasma_tx.specs.declared.owner.Owner.{Owner}
-use Rattle.plasma_tx.specs.declared.links.Links.{Links}
 use Rattle.plasma_tx.specs.declared.call.RootCall.{RootCall}
-use Rattle.plasma_tx.specs.declared.views.CoinView.{CoinView}
-use Rattle.plasma_tx.specs.Views.{coin_at}
 use Rattle.plasma_tx.specs.Shown.{Rules, rules_of}
 use Rattle.coin_history.specs.declared.bundle.Bundle.{Bundle}
 use Rattle.node_rules.specs.Watcher.{who_is, is_of, guards_in, due_for_kept, watch_answer}
-use Rattle.watch_duty.specs.Duty.{due_of}
 use Rattle.watch_duty.proofs.Members.{Has, has-contains, contains-has, has-flat_map, has-left, has-right}
 use Rattle.world_rules.specs.Events.{Event, log_of, wallet_owner, is_bundle, guarded_by}
 use Rattle.world_rules.specs.World.{Node, World, is_watcher_role}
@@ -27,15 +23,7 @@ use Rattle.world_laws.proofs.NodeNotes.{AreNoted, noted-at}
 due-same : (tag : List ℕ) (log : List RootCall) (account : ℕ) (bundles : List Bundle) (kept : Bundle)
     → (by : IsShown tag bundles kept)
     → due_for_kept tag log account by.bundle ≡ due_for_kept tag log account kept
-due-same tag log account bundles kept by = λ i.
-    option_map_or (λ (links : Links). due_of log account (record { links = links }))
-    (option_map (λ (made : CoinView). record {
-      coin = by.coin i;
-      deposit = made.deposit;
-      owner = made.owner;
-      spends = by.links i;
-    }) (coin_at log (by.coin i)))
-    []
+due-same tag log account bundles kept by = grind (arith, common_steps)
 
 pub has-in-flat_map : {X Y : Type 0} (f : X → List Y) (xs : List X) (x : X) (y : Y) → Has xs x → Has (f x) y
     → Has (flat_map f xs) y
@@ -57,14 +45,7 @@ module _ (tag : List ℕ) (log : List RootCall) (account : ℕ) (bundles guards 
     tip_is : kept.tip ≡ e
 
   found : (c e : ℕ) → list_any (is_of c e) guards ≡ true → Found c e
-  found c e is =
-      let r = any-some (is_of c e) guards is in
-      let parts = and_parts (r.0.coin == c) (r.0.tip == e) r.2 in record {
-        kept = r.0;
-        has = r.1;
-        coin_is = eqb-true r.0.coin c parts.0;
-        tip_is = eqb-true r.0.tip e parts.1;
-      }
+  found c e is = grind (arith, common_steps, any-some, and_parts, eqb-true)
 
   due-offered : (kept : Bundle) → (has : Has guards kept) → (call : RootCall)
       → Contains (due_for_kept tag log account (shown kept has).bundle) call → Contains calls call

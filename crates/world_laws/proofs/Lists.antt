@@ -1,8 +1,9 @@
 -- Lists: what is in one, what holds of each, and finding.
-use Rattle.std.proofs.Common.{◌≡◌, ◌⊎◌, ℕ, zero, suc, ◌||◌, ◌==◌, ◌&&◌, not, Bool, true, false, if◌then◌else◌, List, [], ◌∷◌, ◌++◌, map, Some, None, inl, inr, refl, sym, ap, ◌∙◌, subst, find}
+use Rattle.std.proofs.Common.{◌≡◌, ◌⊎◌, ℕ, zero, suc, ◌||◌, ◌==◌, ◌&&◌, not, Bool, true, false, if◌then◌else◌, List, [], ◌∷◌, ◌++◌, map, Some, None, inl, inr, refl, sym, ap, ◌∙◌, subst, find, arith}
 use Rattle.std.specs.Prelude.{slice_get}
 use Rattle.std.specs.List.{AllByRecursion, list_any, list_all}
 use Rattle.std.proofs.lemmas.Bool.{eqb-true, and_parts, and_from, or_cases, true≢false, false≢true, false_from_ne_true}
+use Rattle.std.proofs.lemmas.Grind.{common_steps}
 use Rattle.plasma_tx.specs.declared.call.RootCall.{RootCall}
 use Rattle.plasma_tx.specs.Views.{Challenge, Exit, is_exit, with_exit_changed, with_answer_at, challenge_at, exits, exit_at}
 use Rattle.plasma_tx.proofs.RuleNames.{exits-distinct}
@@ -102,13 +103,7 @@ pub all-answered : (P : Challenge → Type 0) (block : ℕ) (xs : List Challenge
     → ((ch : Challenge) → ch.block ≡ block → P ch → P (record ch { answered = true })) → AllByRecursion P xs
     → AllByRecursion P (map (with_answer_at block) xs)
 all-answered P block [] keeps h = tt
-all-answered P block (x ∷ xs) keeps h = (
-  (elim (x.block == block) as (λ b. (x.block == block) ≡ b → P (if b then record x { answered = true } else x)) [
-    | true ↦ λ is. keeps x (eqb-true x.block block is) h.0
-    | false ↦ λ isnt. h.0
-  ]) refl,
-  all-answered P block xs keeps h.1,
-)
+all-answered P block (x ∷ xs) keeps h = grind (arith, common_steps, all-answered P block xs keeps h.1, eqb-true)
 
 -- where each is answered, all are
 pub all_answered-from : (xs : List Challenge) → AllByRecursion (λ ch. ch.answered ≡ true) xs
@@ -125,12 +120,7 @@ passes-has p (y ∷ ys) x all (inr h) = passes-has p ys x (and_parts (p y) (list
 -- one of two tests passes somewhere
 pub any-either : {A : Type 0} (p q : A → Bool) (xs : List A) → list_any (λ x. p x || q x) xs ≡ true
     → (list_any p xs ≡ true) ⊎ (list_any q xs ≡ true)
-any-either p q xs is =
-    let r = any-some (λ x. p x || q x) xs is in
-    elim (or_cases (p r.0) (q r.0) r.2) [
-      | inl one ↦ inl (any-has p xs r.0 r.1 one)
-      | inr other ↦ inr (any-has q xs r.0 r.1 other)
-    ]
+any-either p q xs is = grind (arith, common_steps, any-some, or_cases, any-has)
 
 pub got-has : {A : Type 0} (xs : List A) (i : ℕ) (x : A) → slice_get xs i ≡ Some x → Has xs x
 got-has [] i x is = absurd (none_some x is)

@@ -1,12 +1,11 @@
 -- What a look shows: of an exit that somebody looked after, another account's is challenged at the tip while its window
 -- is open, and the challenges of the own one are answered in their time. So a tick that doesn't go unseen keeps what
 -- holds of each exit of a held coin.
-use Rattle.std.proofs.Common.{◌≡◌, ◌≢◌, ◌⊎◌, ℕ, ◌+◌, ◌<◌, ◌==◌, ◌&&◌, ◌||◌, not, Bool, true, false, if◌then◌else◌, List, [], ◌∷◌, inl, inr, refl, sym, ap, ◌∙◌, subst, arith}
+use Rattle.std.proofs.Common.{◌≡◌, ◌≢◌, ◌⊎◌, ℕ, ◌+◌, ◌<◌, ◌==◌, ◌&&◌, not, Bool, true, false, if◌then◌else◌, List, [], ◌∷◌, inl, inr, refl, sym, ap, ◌∙◌, subst, arith, rules}
 use Rattle.std.specs.Prelude.{is_none}
 use Rattle.std.specs.List.{list_any}
-use Rattle.std.specs.Option.{option_map_or}
 use Rattle.std.proofs.lemmas.Bool.{eq-eqb, lt-ltb, le-leb, and_parts, and_from, or_cases, or_from, not-true, not_from_false, true≢false, false≢true}
-use Rattle.plasma_tx.specs.declared.owner.Owner.{Owner}
+use Rattle.std.proofs.lemmas.Grind.{common_steps}
 use Rattle.plasma_tx.specs.declared.opening.RawOpening.{RawOpening}
 use Rattle.plasma_tx.specs.declared.call.RootCall.{RootCall}
 use Rattle.plasma_tx.specs.declared.call.RootCall.TheVariants.{Tick, After, Between, Before, Respond}
@@ -19,9 +18,9 @@ use Rattle.watch_duty.specs.Duty.{tip_shown}
 use Rattle.watch_duty.proofs.Members.{Has, all-has}
 use Rattle.watch_duty.proofs.Dues.{IsDue, DueAfter, DueBetween, DueBefore, DueRespond, due_for-due}
 use Rattle.world_rules.specs.Laws.{IsDigest}
-use Rattle.world_rules.specs.Events.{Event, Joins, Watches, log_of, wallet_owner}
+use Rattle.world_rules.specs.Events.{Event, Joins, Watches, log_of}
 use Rattle.world_rules.specs.Exhibits.{seen, strings_of, has_clash, is_forged}
-use Rattle.world_rules.specs.Safety.{holds, is_met, meets_challenge, is_mine}
+use Rattle.world_rules.specs.Safety.{is_met, meets_challenge, is_mine}
 use Rattle.world_laws.specs.Legal.{IsLegal}
 use Rattle.world_laws.specs.Looked.{is_before, is_on_exit, fulfils, are_fulfilled, is_guardian, has_look, exit_has_look, challenge_has_look, passes_unseen, goes_unseen}
 use Rattle.world_laws.proofs.Lists.{and-seen, and-off, all-from, any-none, passes-has, any-either}
@@ -42,11 +41,7 @@ fulfilled-one : (is_asked : RootCall → Bool) (since offers : List RootCall)
     → are_fulfilled is_asked since offers ≡ true → (offer : RootCall) → Has offers offer → is_asked offer ≡ true
     → list_any (fulfils offer) since ≡ true
 fulfilled-one is_asked since offers all offer has asked =
-    elim (or_cases (not (is_asked offer)) (list_any (fulfils offer) since)
-    (passes-has (λ (o : RootCall). not (is_asked o) || list_any (fulfils o) since) offers offer all has)) [
-      | inl off ↦ absurd (true≢false (sym asked ∙ not-true _ off))
-      | inr fulfilled ↦ fulfilled
-    ]
+    grind (arith, common_steps, or_cases, passes-has, true≢false, not-true)
 
 module _ (tests : Tests) (rules : Rules) (events : List Event) (c : ℕ) (made : CoinView) (e : ℕ)
     (offers : List RootCall) (g : OffersDue tests rules events c made e offers) (x : Exit)
@@ -263,15 +258,7 @@ module _ (dig : List ℕ → List ℕ) (digest : IsDigest dig) (rules : Rules) (
   exit-seen : (events : List Event) (time : ℕ) → (h : Holding events w c e)
       → goes_unseen events w c e (Joins (Tick time)) ≡ false → (x : Exit) → Has (exits (log_of events)) x
       → x.coin ≡ c → passes_unseen h.me events w c e time x ≡ false
-  exit-seen events time h unseen x there c_is =
-      let of : Owner → Exit → Bool = λ me exit. (exit.coin == c) && passes_unseen me events w c e time exit in
-      let none : list_any (of h.me) (exits (log_of events)) ≡ false =
-      ap (λ o. option_map_or (λ me. list_any (of me) (exits (log_of events))) o false) (sym h.me_is)
-      ∙ and-off (holds events w c e)
-      (option_map_or (λ me. list_any (of me) (exits (log_of events))) (wallet_owner events w) false) unseen
-      (holds-from events w c e h) in
-      and-off (x.coin == c) (passes_unseen h.me events w c e time x)
-      (any-none (of h.me) (exits (log_of events)) x none there) (eq-eqb x.coin c c_is)
+  exit-seen events time h unseen x there c_is = grind (arith, common_steps, and-off, holds-from, any-none, eq-eqb)
 
   abbrev own_unseen : List Event → ℕ → Exit → Bool
   own_unseen events time x = (x.block == e) && list_any

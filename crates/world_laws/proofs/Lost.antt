@@ -1,14 +1,14 @@
 -- A coin that was looked after isn't taken.
-use Rattle.std.proofs.Common.{◌≡◌, ◌⊎◌, ℕ, ◌+◌, ◌==◌, ◌&&◌, not, Bool, true, false, if◌then◌else◌, List, [], ◌∷◌, Option, Some, None, inl, inr, refl, sym, ap, ◌∙◌, subst}
+use Rattle.std.proofs.Common.{◌≡◌, ◌⊎◌, ℕ, ◌+◌, ◌==◌, ◌&&◌, not, Bool, true, false, if◌then◌else◌, List, [], ◌∷◌, Option, Some, None, inl, inr, refl, sym, ap, ◌∙◌, subst, arith, rules}
 use Rattle.std.specs.Prelude.{nat_le}
 use Rattle.std.specs.Option.{option_or}
 use Rattle.std.specs.List.{list_any}
 use Rattle.std.proofs.lemmas.Bool.{cases_Bool, eq-eqb, eqb-true, le-leb, and_parts, and_from, or_parts, or_cases, or_from, or_right, not-true, not_from_false, true≢false, false≢true, false_from_ne_true}
+use Rattle.std.proofs.lemmas.Grind.{common_steps}
 use Rattle.plasma_tx.specs.declared.owner.Owner.{Owner}
 use Rattle.plasma_tx.specs.declared.call.RootCall.{RootCall}
 use Rattle.plasma_tx.specs.declared.call.RootCall.TheVariants.{After, Between, Finish}
 use Rattle.plasma_tx.specs.declared.answer.Answer.{Answer}
-use Rattle.plasma_tx.specs.declared.views.CoinView.{CoinView}
 use Rattle.plasma_tx.specs.Views.{now, coin_at, Exit, exits, exit_at, is_withdrawn, has_no_open_challenge}
 use Rattle.plasma_tx.specs.declared.rules.TheConstants.{EXIT_PERIOD}
 use Rattle.plasma_tx.specs.Shown.{Tests, Rules, tests_by}
@@ -18,7 +18,7 @@ use Rattle.plasma_tx.proofs.Accepted.{accepted_calls_show}
 use Rattle.plasma_tx.proofs.Ends.{paid_exactly}
 use Rattle.watch_duty.proofs.Members.{Has, all-has, contains-has}
 use Rattle.world_rules.specs.Laws.{IsDigest}
-use Rattle.world_rules.specs.Events.{Event, Declares, Joins, Accepts, log_of, wallet_owner, accepted, bound_by, taken_back, signed_away_by, is_sent_from, is_bundle}
+use Rattle.world_rules.specs.Events.{Event, Declares, Joins, log_of, wallet_owner, accepted, bound_by, taken_back, signed_away_by, is_sent_from, is_bundle}
 use Rattle.world_rules.specs.Exhibits.{seen, strings_of, has_clash, is_forged}
 use Rattle.world_rules.specs.Safety.{was_deposited, holds, is_mine, is_own, finish_harms, call_harms, harms}
 use Rattle.world_rules.specs.Verdicts.{is_others, is_finish_paid, pays_own, pays_other, ends_own, takes_from, before_taking, exit_was_paid}
@@ -39,41 +39,20 @@ use Rattle.world_laws.proofs.Exhibited.{or-none}
 deposited-on : (event : Event) (events : List Event) (me : Owner) (c e : ℕ)
     → was_deposited me e (coin_at (log_of events) c) ≡ true
     → was_deposited me e (coin_at (log_of (event ∷ events)) c) ≡ true
-deposited-on event events me c e is = by_coin (coin_at (log_of events) c) refl is
-  where
-    by_coin : (o : Option CoinView) → coin_at (log_of events) c ≡ o → was_deposited me e o ≡ true
-        → was_deposited me e (coin_at (log_of (event ∷ events)) c) ≡ true
-    by_coin None none wrong = absurd (false≢true wrong)
-    by_coin (Some made) some own = ap (was_deposited me e) (coin-stays event events c made some) ∙ own
+deposited-on event events me c e is = grind (arith, common_steps, false≢true, coin-stays)
 
 accepted-on : (event : Event) (events : List Event) (w c e : ℕ)
     → list_any (is_bundle c e) (accepted events w) ≡ true
     → list_any (is_bundle c e) (accepted (event ∷ events) w) ≡ true
 unfolding accepted
-accepted-on (Accepts v bundle) events w c e is = either (v == w)
-  where
-    either : (b : Bool)
-        → list_any (is_bundle c e) (if b then bundle ∷ accepted events w else accepted events w) ≡ true
-    either true = or_right (is_bundle c e bundle) (list_any (is_bundle c e) (accepted events w)) is
-    either false = is
-accepted-on event events w c e is = is
+accepted-on event events w c e is = grind (arith, common_steps, or_right)
 
 holds-on : (tests : Tests) (rules : Rules) (event : Event) (events : List Event) (w c e : ℕ)
     → IsLegal tests rules (event ∷ events) → holds events w c e ≡ true
     → is_sent_from (signed_away_by (event ∷ events) w) c e ≡ false
     → is_withdrawn (log_of (event ∷ events)) c ≡ false → holds (event ∷ events) w c e ≡ true
 holds-on tests rules event events w c e legal is not_away stays =
-    let h = holding events w c e is in
-    holds-from (event ∷ events) w c e (record {
-      me = h.me;
-      me_is = owner-stays tests rules event events w h.me legal h.me_is;
-      source = elim h.source [
-        | inl l ↦ inl (deposited-on event events h.me c e l)
-        | inr r ↦ inr (accepted-on event events w c e r)
-      ];
-      not_away = not_away;
-      not_withdrawn = stays;
-    })
+    grind (arith, common_steps, holding, holds-from, owner-stays, deposited-on, accepted-on)
 
 -- ---- what one call does
 
@@ -163,19 +142,7 @@ module _ (tests : Tests) (rules : Rules) (me : Owner) (c e : ℕ) (log : List Ro
   pays-harms : (call : RootCall) → pays_other tests rules log me c (Joins call) ≡ true
       → call_harms tests rules log me c e call ≡ true
   unfolding call_harms
-  pays-harms (Finish account k f) pays =
-      let answer : Answer = answer_to tests rules log (Finish account k f) in
-      let whole = and_parts ((k == c) && is_others me (exit_at log k f)) (is_paid answer) pays in
-      let parts = and_parts (k == c) (is_others me (exit_at log k f)) whole.0 in
-      and_from _ _ parts.0 (by_exit answer (exit_at log k f) parts.1 whole.1)
-    where
-      by_exit : (answer : Answer) (o : Option Exit) → is_others me o ≡ true → is_paid answer ≡ true
-          → finish_harms me e (now log) answer o ≡ true
-      by_exit answer None wrong paid = absurd (false≢true wrong)
-      by_exit answer (Some x) others paid =
-          subst (λ (b : Bool). (if b then (x.block == e) && nat_le (x.start + EXIT_PERIOD) (now log)
-          && not (is_paid answer) else is_paid answer) ≡ true) (sym (not-true _ others)) paid
-  pays-harms call pays = absurd (false≢true pays)
+  pays-harms call pays = grind (arith, common_steps, and_parts, and_from, false≢true, not-true)
 
 -- ---- all events
 
@@ -185,14 +152,7 @@ module _ (dig : List ℕ → List ℕ) (digest : IsDigest dig) (rules : Rules) (
       → (before_taking (tests_by dig) rules events me w c e ≡ None)
       × (takes_from (tests_by dig) rules events me w c e event ≡ false)
   unfolding before_taking
-  taking-parts event events none =
-      let parts = or-none (before_taking (tests_by dig) rules events me w c e)
-      (if takes_from (tests_by dig) rules events me w c e event then Some events else None) none in
-      (parts.0, off (takes_from (tests_by dig) rules events me w c e event) parts.1)
-    where
-      off : (b : Bool) → (if b then Some events else None) ≡ None → b ≡ false
-      off true wrong = absurd (none_some events (sym wrong))
-      off false is = refl
+  taking-parts event events none = grind (arith, common_steps, or-none, none_some)
 
   unpaid-parts : (event : Event) (events : List Event)
       → exit_was_paid (tests_by dig) rules (event ∷ events) me c e ≡ false

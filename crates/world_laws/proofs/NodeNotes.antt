@@ -1,7 +1,8 @@
 -- In every run, nodes' notes are beside the events: what wallets accept and watchers keep is shown by what they
 -- accepted and guard, and what a wallet left with is noted.
-use Rattle.std.proofs.Common.{◌≡◌, ℕ, zero, suc, Bool, true, false, List, [], ◌∷◌, length, slice_get, Some, None, refl, sym, ap, ◌∙◌, subst}
+use Rattle.std.proofs.Common.{◌≡◌, ℕ, Bool, true, false, List, [], ◌∷◌, length, slice_get, Some, None, refl, sym, ap, ◌∙◌, subst, arith, rules}
 use Rattle.std.proofs.lemmas.Bool.{false≢true}
+use Rattle.std.proofs.lemmas.Grind.{common_steps}
 use Rattle.plasma_tx.specs.declared.call.RootCall.{RootCall}
 use Rattle.plasma_tx.specs.Shown.{Rules}
 use Rattle.coin_history.specs.declared.bundle.Bundle.{Bundle}
@@ -54,16 +55,7 @@ noted-still : (dig : List ℕ → List ℕ) (events : List Event) (event : Event
     (up : Bool) (calls : List RootCall) → said (event ∷ events) n ≡ said events n
     → left_by (event ∷ events) n ≡ left_by events n → IsNoted dig events tag n node
     → IsNoted dig (event ∷ events) tag n (record node { is_up = up; offers = calls })
-noted-still dig events event tag n node up calls same starts held = record {
-  guards = λ watcher.
-      subst (λ (s : Said). AreShown tag s.guarded (guards_in dig node.notes)) (sym same) (held.guards watcher);
-  accepts = λ wallet.
-      subst (λ (s : Said). AreShown tag s.accepted (accepted_in dig node.notes)) (sym same) (held.accepts wallet);
-  left = λ wallet. record {
-    openings = (held.left wallet).openings;
-    left = λ c e is. (held.left wallet).left c e (ap (λ calls. is_left calls c e) (sym starts) ∙ is);
-  };
-}
+noted-still dig events event tag n node up calls same starts held = grind (arith, common_steps, accepted_in)
 
 -- a new node accepted nothing, and keeps nothing
 none-accepted : (dig : List ℕ → List ℕ) (body : List ℕ) (kept : Bundle) → Has (accepted_in dig (body ∷ [])) kept → ⊥
@@ -185,12 +177,7 @@ module _ (dig : List ℕ → List ℕ) (events : List Event) (world : World) (ke
 
 first-noted : (dig : List ℕ → List ℕ) (tag operator most : ℕ)
     → AreNoted dig (Idle ∷ []) (begun tag operator most).world
-first-noted dig tag operator most zero = record {
-  guards = λ wrong. absurd (false≢true wrong);
-  accepts = λ wrong. absurd (false≢true wrong);
-  left = λ wrong. absurd (false≢true wrong);
-}
-first-noted dig tag operator most (suc n) = tt
+first-noted dig tag operator most h4 = grind (arith, common_steps, false≢true)
 
 pub runs-noted : (dig : List ℕ → List ℕ) (lines : List Line) (run : Run) (world : World)
     → IsRun dig lines run world → AreNoted dig (events_of run.entries) world

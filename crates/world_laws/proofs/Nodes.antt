@@ -1,11 +1,12 @@
 -- What stays of a node while others act.
-use Rattle.std.proofs.Common.{◌≡◌, ℕ, ◌==◌, ◌||◌, not, Bool, true, false, if◌then◌else◌, List, ◌∷◌, Some, refl, sym, ap, ◌∙◌, filter}
+use Rattle.std.proofs.Common.{◌≡◌, ℕ, ◌||◌, true, false, List, ◌∷◌, arith, rules}
 use Rattle.std.specs.List.{list_any}
 use Rattle.std.proofs.lemmas.Bool.{eqb-true, true≢false}
+use Rattle.std.proofs.lemmas.Grind.{common_steps}
 use Rattle.plasma_tx.specs.declared.owner.Owner.{Owner}
 use Rattle.plasma_tx.specs.Views.{coin_at}
 use Rattle.plasma_tx.specs.Shown.{Tests, Rules}
-use Rattle.world_rules.specs.Events.{Event, Declares, Joins, Accepts, Guards, Releases, Binds, TakesBack, log_of, wallet_owner, accepted, bound_by, taken_back, is_bundle, guarded_by, is_command_of}
+use Rattle.world_rules.specs.Events.{Event, log_of, wallet_owner, accepted, bound_by, taken_back, is_bundle, guarded_by, is_command_of}
 use Rattle.world_rules.specs.Safety.{was_deposited, is_joined}
 use Rattle.world_laws.specs.Legal.{is_tip, IsLegal}
 
@@ -21,45 +22,7 @@ pub record SameNode (event : Event) (events : List Event) (n : ℕ) : Type 0 whe
 pub same-node : (event : Event) (events : List Event) (n : ℕ) → is_command_of n event ≡ false
     → is_joined event ≡ false → SameNode event events n
 unfolding log_of accepted bound_by taken_back guarded_by
-same-node (Joins call) events n other none = absurd (true≢false none)
-same-node (Accepts v bundle) events n other none = record {
-  log = refl;
-  bundles = ap (λ (b : Bool). if b then bundle ∷ accepted events n else accepted events n) other;
-  bodies = refl;
-  back = refl;
-  guards = refl;
-}
-same-node (Guards v bundle) events n other none = record {
-  log = refl;
-  bundles = refl;
-  bodies = refl;
-  back = refl;
-  guards = ap (λ (b : Bool). if b then bundle ∷ guarded_by events n else guarded_by events n) other;
-}
-same-node (Releases v c e) events n other none = record {
-  log = refl;
-  bundles = refl;
-  bodies = refl;
-  back = refl;
-  guards = ap (λ (b : Bool).
-      if b then filter (λ bundle. not (is_bundle c e bundle)) (guarded_by events n) else guarded_by events n) other;
-}
-same-node (Binds v body) events n other none = record {
-  log = refl;
-  bundles = refl;
-  bodies = ap (λ (b : Bool). if b then body ∷ bound_by events n else bound_by events n) other;
-  back = refl;
-  guards = refl;
-}
-same-node (TakesBack v q bundle) events n other none = record {
-  log = refl;
-  bundles = refl;
-  bodies = refl;
-  back = ap (λ (b : Bool). if b then q ∷ taken_back events n else taken_back events n) other;
-  guards = refl;
-}
-same-node event events n other none =
-    record { log = refl; bundles = refl; bodies = refl; back = refl; guards = refl }
+same-node event events n other none = grind (arith, common_steps, true≢false)
 
 -- ---- the owner stays
 
@@ -68,13 +31,7 @@ pub owner-same : (tests : Tests) (rules : Rules) (event : Event) (events : List 
     → IsLegal tests rules (event ∷ events) → list_any (is_command_of n) events ≡ true
     → wallet_owner (event ∷ events) n ≡ wallet_owner events n
 unfolding IsLegal wallet_owner
-owner-same tests rules (Declares v me) events n legal used =
-    (elim (v == n) as (λ b. (v == n) ≡ b → (if b then Some me else wallet_owner events n) ≡ wallet_owner events n) [
-      | true ↦ λ same. absurd (true≢false (sym used
-          ∙ ap (λ m. list_any (is_command_of m) events) (sym (eqb-true v n same)) ∙ legal.0.unused))
-      | false ↦ λ apart. refl
-    ]) refl
-owner-same tests rules event events n legal used = refl
+owner-same tests rules event events n legal used = grind (arith, common_steps, true≢false, eqb-true)
 
 -- ---- where the node came to have a coin
 

@@ -3,27 +3,26 @@
 use Rattle.std.proofs.Common.{◌≡◌, ℕ, zero, suc, ◌+◌, ◌-◌, ◌*◌, ◌≤◌, ◌==◌, Bool, true, false, if◌then◌else◌, List, [], ◌∷◌, ◌++◌, length, map, filter, drop, All, Option, Some, None, Ok, Err, refl, ap, subst, length-append, length-drop, nat_lt, nat_le, arith}
 use Rattle.std.specs.Prelude.{Result}
 use Rattle.std.specs.List.{filter_map, cons_option, flat_map, range_with_len}
-use Rattle.std.specs.Option.{option_map, option_map_or}
+use Rattle.std.specs.Option.{option_map}
 use Rattle.std.proofs.lemmas.Bool.{and_parts, eqb-true, le-ltb, false≢true}
 use Rattle.std.proofs.lemmas.List.{length-take-le, length-map}
 use Rattle.std.proofs.lemmas.List.Elements.{All-head, All-tail}
+use Rattle.std.proofs.lemmas.Grind.{common_steps}
 use Rattle.sparse_merkle.specs.MaskedPath.{MaskedPath, set_bits, has_proof_length, mask_in, proof_in}
 use Rattle.sparse_merkle.proofs.ProofLaws.{set_bits-bound}
 use Rattle.plasma_tx.specs.declared.owner.Owner.{Owner}
 use Rattle.plasma_tx.specs.declared.opening.Opening.{Opening}
 use Rattle.plasma_tx.specs.declared.opening.RawOpening.{RawOpening}
-use Rattle.plasma_tx.specs.declared.opening.OpeningRefusal.{OpeningRefusal}
 use Rattle.plasma_tx.specs.declared.links.Link.{Link}
 use Rattle.plasma_tx.specs.declared.links.Links.{Links}
 use Rattle.plasma_tx.specs.declared.signed_tx.SignedTx.{SignedTx}
-use Rattle.plasma_tx.specs.declared.signed_tx.TxRefusal.{TxRefusal}
 use Rattle.plasma_tx.specs.declared.call.RootCall.{RootCall}
 use Rattle.plasma_tx.specs.Openings.{leaf_length, leaf_in, opening_in}
 use Rattle.plasma_tx.specs.Spelling.{number_text, signed_in}
-use Rattle.plasma_tx.specs.Transfer.{is_transfer, kept_transfer, transfer_in, is_signed_by}
+use Rattle.plasma_tx.specs.Transfer.{transfer_in, is_signed_by}
 use Rattle.plasma_tx.specs.Views.{blocks}
 use Rattle.plasma_tx.proofs.OpeningTexts.{opening_in-ok}
-use Rattle.plasma_tx.specs.Shown.{opens_root, root_at, tests_by}
+use Rattle.plasma_tx.specs.Shown.{tests_by}
 use Rattle.coin_history.specs.declared.bundle.Bundle.{Bundle}
 use Rattle.coin_history.specs.Bundles.{length_text, item_text, bundle_text}
 use Rattle.coin_history.specs.History.{is_committed, committed_blocks, opens_block, transfer_of, link_of, links_in, AreLinked, IsHistory}
@@ -67,31 +66,13 @@ opening-length dig raw opening is =
 -- an opening that opens its block's root is read
 opened-read : (dig : List ℕ → List ℕ) (log : List RootCall) (coin : ℕ) (o : RawOpening)
     → opens_block (tests_by dig) log coin o ≡ true → (opening : Opening) × (opening_in dig o ≡ Ok opening)
-opened-read dig log coin o is = by (root_at log o.block) is
-  where
-    read : (root : List ℕ) (r : Result Opening OpeningRefusal) → opening_in dig o ≡ r
-        → opens_root dig root coin r ≡ true → (opening : Opening) × (opening_in dig o ≡ Ok opening)
-    read root (Ok opening) here is = (opening, here)
-    read root (Err why) here is = absurd (false≢true is)
-
-    by : (root : Option (List ℕ)) → option_map_or (λ r. (tests_by dig).opens r coin o) root false ≡ true
-        → (opening : Opening) × (opening_in dig o ≡ Ok opening)
-    by None is = absurd (false≢true is)
-    by (Some root) is = read root (opening_in dig o) refl is
+opened-read dig log coin o is = grind (arith, common_steps, false≢true)
 
 -- a leaf that is a transfer reads as one
 leaf-read : (tag leaf : List ℕ) (coin block : ℕ) (tx : SignedTx) → transfer_in tag coin block leaf ≡ Some tx
     → signed_in tag leaf ≡ Ok tx
 unfolding transfer_in
-leaf-read tag leaf coin block tx is = by (signed_in tag leaf) is
-  where
-    kept : (b : Bool) (one : SignedTx) → (if b then Some one else None) ≡ Some tx → one ≡ tx
-    kept true one is = some_same one tx is
-    kept false one is = absurd (cc is)
-
-    by : (r : Result SignedTx TxRefusal) → kept_transfer coin block r ≡ Some tx → r ≡ Ok tx
-    by (Err why) is = absurd (cc is)
-    by (Ok one) is = ap (λ (t : SignedTx). Ok t) (kept (is_transfer coin block one.body) one is)
+leaf-read tag leaf coin block tx is = grind (arith, common_steps, some_same)
 
 -- ---- links
 
@@ -102,18 +83,7 @@ abbrev link_by : RawOpening → Option SignedTx → Option Link
 link_by o found = option_map (λ tx. record { block = o.block; tx = tx; opening = o }) found
 
 item-length : (o : RawOpening) → length (item_text o) ≡ 12 + length o.bytes
-item-length o =
-    let block : length (number_text o.block) ≡ 8 = refl in
-    let count : length (length_text (length o.bytes)) ≡ 4 = refl in
-    omega (
-      arith,
-      block,
-      count,
-      length-append (number_text o.block) (length_text (length o.bytes) ++ o.bytes),
-      length-append (length_text (length o.bytes)) o.bytes,
-      length-append (number_text o.block ++ length_text (length o.bytes)) o.bytes,
-      length-append (number_text o.block) (length_text (length o.bytes)),
-    )
+item-length o = grind (arith, common_steps)
 
 module _ (dig : List ℕ → List ℕ) (tag : List ℕ) (log : List RootCall) (coin : ℕ) where
   abbrev shown : List RawOpening → List Link
@@ -125,12 +95,7 @@ module _ (dig : List ℕ → List ℕ) (tag : List ℕ) (log : List RootCall) (c
   one-short : (o : RawOpening) (tx : SignedTx) (owner : Owner) → opens_block (tests_by dig) log coin o ≡ true
       → transfer_of (chain_of tag) coin o ≡ Some tx → is_signed_by tx owner ≡ true → length (item_text o) ≤ 4704
   one-short o tx owner opened is signed =
-      let read = opened-read dig log coin o opened in
-      let bytes = opening-length dig o read.0 read.1 in
-      let leaf = leaf-short tag (leaf_in o.bytes) tx owner
-      (leaf-read tag (leaf_in o.bytes) coin o.block tx is) signed in
-      let item = item-length o in
-      omega (arith, bytes, leaf, item)
+      grind (arith, common_steps, opened-read, opening-length, leaf-short, leaf-read, item-length)
 
   links-short : (openings : List RawOpening) (block : ℕ) (owner : Owner)
       → All (λ o. opens_block (tests_by dig) log coin o ≡ true) openings
@@ -162,25 +127,12 @@ module _ (dig : List ℕ → List ℕ) (tag : List ℕ) (log : List RootCall) (c
 committed-few : (log : List RootCall) (a n : ℕ)
     → length (filter (is_committed log) (range_with_len a n)) ≤ blocks log + 1 - a
 committed-few log a zero = omega arith
-committed-few log a (suc n) =
-    (elim (is_committed log a) as (λ b. is_committed log a ≡ b
-    → length (if b then a ∷ filter (is_committed log) (range_with_len (a + 1) n)
-    else filter (is_committed log) (range_with_len (a + 1) n)) ≤ blocks log + 1 - a) [
-      | true ↦ λ is.
-          let low = committed-le log a is in
-          let more = committed-few log (a + 1) n in
-          omega (arith, low, more)
-      | false ↦ λ is. let more = committed-few log (a + 1) n in omega (arith, more)
-    ]) refl
+committed-few log a (suc n) = grind (arith, common_steps, committed-few log (a + 1) n, committed-le)
 
 openings-few : (dig : List ℕ → List ℕ) (tag : List ℕ) (log : List RootCall) (bundle : Bundle) (links : Links)
     → IsHistory (tests_by dig) (chain_of tag) log bundle links → length bundle.openings ≤ blocks log
 unfolding committed_blocks
-openings-few dig tag log bundle links history =
-    let long = length-map bundle.openings (λ (o : RawOpening). o.block) in
-    let same = ap (λ (l : List ℕ). length l) history.blocks in
-    let few = committed-few log (history.made.deposit + 1) (bundle.tip - history.made.deposit) in
-    omega (arith, long, same, few)
+openings-few dig tag log bundle links history = grind (arith, common_steps, length-map, committed-few)
 
 -- ---- the note
 

@@ -1,21 +1,20 @@
 -- A start that a wallet's leave offers is the start of an exit at a tip that it has.
-use Rattle.std.proofs.Common.{◌≡◌, ◌⊎◌, ℕ, ◌-◌, ◌==◌, ◌||◌, Bool, true, false, if◌then◌else◌, List, [], ◌∷◌, length, Option, Some, None, inl, inr, refl, sym, ap, ◌∙◌, subst}
-use Rattle.std.specs.Prelude.{slice_get}
+use Rattle.std.proofs.Common.{◌≡◌, ℕ, ◌-◌, ◌==◌, true, false, if◌then◌else◌, List, [], ◌∷◌, length, Option, Some, None, inl, inr, refl, sym, ap, ◌∙◌, subst, arith, rules}
 use Rattle.std.specs.Option.{option_map_or}
-use Rattle.std.specs.List.{AllByRecursion, list_any}
+use Rattle.std.specs.List.{AllByRecursion}
 use Rattle.std.proofs.lemmas.Bool.{eqb-true, or_cases, or_left, or_right, false≢true}
+use Rattle.std.proofs.lemmas.Grind.{common_steps}
 use Rattle.plasma_tx.specs.declared.owner.Owner.{Owner}
 use Rattle.plasma_tx.specs.declared.links.Link.{Link}
 use Rattle.plasma_tx.specs.declared.links.Links.{Links}
 use Rattle.plasma_tx.specs.declared.call.RootCall.{RootCall}
-use Rattle.plasma_tx.specs.declared.call.RootCall.TheVariants.{StartDeposit, StartSpend}
 use Rattle.plasma_tx.specs.declared.views.CoinView.{CoinView}
 use Rattle.plasma_tx.specs.declared.views.ExitView.{ExitView}
 use Rattle.plasma_tx.specs.Links.{last_spend, tip_of}
 use Rattle.plasma_tx.specs.Views.{coin_at, exits_of}
 use Rattle.plasma_tx.specs.Shown.{Tests, Rules}
 use Rattle.coin_history.specs.declared.bundle.Bundle.{Bundle}
-use Rattle.coin_history.specs.History.{links_in, links_of}
+use Rattle.coin_history.specs.History.{links_of}
 use Rattle.coin_history.proofs.HistoryGrow.{coin_at-grown}
 use Rattle.coin_history.proofs.HistoryLinks.{none-linked}
 use Rattle.node_rules.specs.Kept.{kept_links}
@@ -23,10 +22,9 @@ use Rattle.node_rules.specs.Wallet.{start_by, start_of}
 use Rattle.node_rules.specs.Watcher.{due_for_kept}
 use Rattle.watch_duty.specs.Duty.{due_for, due_of}
 use Rattle.watch_duty.proofs.Members.{Has, all-has, contains-has, has-flat_map}
-use Rattle.watch_duty.proofs.Dues.{IsDue as IsDueFor, DueAfter, DueBetween, DueBefore, DueRespond, due_for-due}
-use Rattle.world_rules.specs.Events.{Event, Joins, Accepts, Leaves, log_of, coin_of_call, wallet_owner, accepted, is_bundle}
+use Rattle.watch_duty.proofs.Dues.{IsDue as IsDueFor, due_for-due}
+use Rattle.world_rules.specs.Events.{Event, Joins, Leaves, log_of, coin_of_call, wallet_owner, accepted}
 use Rattle.node_replies.specs.Orders.{exit_block}
-use Rattle.world_rules.specs.Safety.{was_deposited}
 use Rattle.world_laws.specs.Headline.{is_start}
 use Rattle.world_laws.specs.Legal.{starts_by, left_by, is_tip, ShowsTip, Taken, Bare, LegalLeave, IsLegal}
 use Rattle.world_laws.proofs.Lists.{some_same, got-has}
@@ -39,10 +37,7 @@ use Rattle.world_laws.proofs.Guards.{kept-some}
 
 due-no_start : (log : List RootCall) (account : ℕ) (links : Links) (x : ExitView) (call : RootCall)
     → IsDueFor log account links x call → is_start call ≡ false
-due-no_start log account links x call (DueAfter link a b same) = ap is_start (sym same)
-due-no_start log account links x call (DueBetween link a b d same) = ap is_start (sym same)
-due-no_start log account links x call (DueBefore a b d same) = ap is_start (sym same)
-due-no_start log account links x call (DueRespond ch link a b d f g same) = ap is_start (sym same)
+due-no_start log account links x call h5 = grind (arith, common_steps)
 
 pub kept-no_start : (tag : List ℕ) (log : List RootCall) (account : ℕ) (bundle : Bundle) (call : RootCall)
     → Has (due_for_kept tag log account bundle) call → is_start call ≡ false
@@ -57,17 +52,7 @@ kept-no_start tag log account bundle call h = by_links (kept_links tag log bundl
         due-no_start log account links r.0 call (due_for-due log account links r.0 call r.2)
 
 pub start-any : (account : ℕ) (call : RootCall) → starts_by account call ≡ true → is_start call ≡ true
-start-any account (StartDeposit by coin block) is = refl
-start-any account (StartSpend by coin parent exit) is = refl
-start-any account (RootCall.Fund by amount) is = absurd (false≢true is)
-start-any account (RootCall.Tick time) is = absurd (false≢true is)
-start-any account (RootCall.Deposit by amount key) is = absurd (false≢true is)
-start-any account (RootCall.Commit by root) is = absurd (false≢true is)
-start-any account (RootCall.After by coin exit spend) is = absurd (false≢true is)
-start-any account (RootCall.Between by coin exit spend) is = absurd (false≢true is)
-start-any account (RootCall.Before by coin exit shown) is = absurd (false≢true is)
-start-any account (RootCall.Respond by coin exit challenged spend) is = absurd (false≢true is)
-start-any account (RootCall.Finish by coin exit) is = absurd (false≢true is)
+start-any account call is = grind (arith, common_steps, false≢true)
 
 -- ---- the start at the end of links
 
@@ -107,17 +92,7 @@ module _ (tests : Tests) (rules : Rules) (events : List Event) (w : ℕ) (legal 
             (links-at rules b.coin b.openings),
       )
   shown-links me b links (Bare deposited none) kept =
-      let d = deposited-coin me b.tip (coin_at (log_of events) b.coin) deposited in
-      let own : Links = links_of rules d.0 b in
-      let same : own ≡ links = some_same own links (sym (kept-some rules (log_of events) b d.0 d.1) ∙ kept) in
-      let empty : own.spends ≡ [] = ap (links_in rules b.coin) none ∙ none-linked rules b.coin in
-      let end : tip_of own ≡ d.0.deposit = ap (λ (ls : List Link).
-      option_map_or (λ (link : Link). link.block) (slice_get ls (length ls - 1)) d.0.deposit) empty in (
-        ap (λ (l : Links). l.coin) (sym same),
-        ap tip_of (sym same) ∙ end ∙ d.2,
-        subst (λ (l : Links). AllByRecursion (λ (link : Link). link.opening.block ≡ link.block) l.spends) same
-            (links-at rules b.coin b.openings),
-      )
+      grind (arith, common_steps, deposited-coin, some_same, kept-some, none-linked, links-at)
 
 -- ---- a start that was offered once
 
@@ -130,35 +105,13 @@ pub record IsLeftStart (events : List Event) (w : ℕ) (call : RootCall) : Type 
   pub tip : is_tip events w me (coin_of_call call) (exit_block call) ≡ true
 
 tip-held : (events : List Event) (w c e : ℕ) (h : Holding events w c e) → is_tip events w h.me c e ≡ true
-tip-held events w c e h = either h.source
-  where
-    either : (was_deposited h.me e (coin_at (log_of events) c) ≡ true)
-        ⊎ (list_any (is_bundle c e) (accepted events w) ≡ true) → is_tip events w h.me c e ≡ true
-    either (inl l) = or_left _ _ l
-    either (inr r) = or_right _ _ r
+tip-held events w c e h = grind (arith, common_steps, or_left, or_right)
 
 -- a tip stays one, whatever comes
 tip-grows : (event : Event) (events : List Event) (w : ℕ) (me : Owner) (c n : ℕ) (made : CoinView)
     → coin_at (log_of events) c ≡ Some made → is_tip events w me c n ≡ true → is_tip (event ∷ events) w me c n ≡ true
 unfolding log_of accepted
-tip-grows (Joins call) events w me c n made found is =
-    ap (λ o. was_deposited me n o || list_any (is_bundle c n) (accepted events w))
-    (coin_at-grown (log_of events) call c made found ∙ sym found)
-    ∙ is
-tip-grows (Accepts v bundle) events w me c n made found is = by (v == w)
-  where
-    by : (b : Bool) → (was_deposited me n (coin_at (log_of events) c)
-        || list_any (is_bundle c n) (if b then bundle ∷ accepted events w else accepted events w)) ≡ true
-    by false = is
-    by true =
-        elim (or_cases (was_deposited me n (coin_at (log_of events) c)) (list_any (is_bundle c n) (accepted events w))
-        is) [
-          | inl deposited ↦ or_left (was_deposited me n (coin_at (log_of events) c)) _ deposited
-          | inr taken ↦
-              or_right (was_deposited me n (coin_at (log_of events) c)) _
-              (or_right (is_bundle c n bundle) (list_any (is_bundle c n) (accepted events w)) taken)
-        ]
-tip-grows event events w me c n made found is = is
+tip-grows event events w me c n made found is = grind (arith, common_steps, coin_at-grown, or_cases, or_left, or_right)
 
 pub coin-stays : (event : Event) (events : List Event) (c : ℕ) (made : CoinView)
     → coin_at (log_of events) c ≡ Some made → coin_at (log_of (event ∷ events)) c ≡ Some made
@@ -199,13 +152,7 @@ module _ (tests : Tests) (rules : Rules) where
 
   left-on : (event : Event) (events : List Event) (w : ℕ) (call : RootCall) → IsLegal tests rules (event ∷ events)
       → IsLeftStart events w call → IsLeftStart (event ∷ events) w call
-  left-on event events w call legal k = record {
-    me = k.me;
-    me_is = owner-stays tests rules event events w k.me legal k.me_is;
-    made = k.made;
-    made_is = coin-stays event events (coin_of_call call) k.made k.made_is;
-    tip = tip-grows event events w k.me (coin_of_call call) (exit_block call) k.made k.made_is k.tip;
-  }
+  left-on event events w call legal k = grind (arith, common_steps, owner-stays, coin-stays, tip-grows)
 
   pub left_start : (events : List Event) (w : ℕ) (call : RootCall) → IsLegal tests rules events
       → Has (left_by events w) call → IsLeftStart events w call

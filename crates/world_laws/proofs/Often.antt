@@ -1,9 +1,10 @@
 -- What is looked at often is looked after: an exit or a challenge that is newer than a recent look has more time left
 -- than the look is old.
-use Rattle.std.proofs.Common.{◌≡◌, ℕ, ◌+◌, ◌<◌, ◌≤◌, ◌==◌, ◌&&◌, ◌||◌, not, Bool, true, false, List, [], ◌∷◌, inl, inr, refl, sym, ap, ◌∙◌, subst, arith}
+use Rattle.std.proofs.Common.{◌≡◌, ℕ, ◌+◌, ◌<◌, ◌≤◌, ◌&&◌, ◌||◌, not, Bool, true, false, List, [], ◌∷◌, inl, inr, refl, sym, ap, ◌∙◌, subst, arith, rules}
 use Rattle.std.specs.Prelude.{nat_lt}
 use Rattle.std.specs.List.{list_any}
 use Rattle.std.proofs.lemmas.Bool.{eq-eqb, ltb-true, leb-true, and_parts, and_from, or_cases, or_left, or_right, not-true, not_from_false, true≢false, false≢true, false_from_ne_true}
+use Rattle.std.proofs.lemmas.Grind.{common_steps}
 use Rattle.plasma_tx.specs.declared.call.RootCall.{RootCall}
 use Rattle.plasma_tx.specs.declared.call.RootCall.TheVariants.{Tick}
 use Rattle.plasma_tx.specs.Views.{now, Challenge, Exit, exits}
@@ -12,12 +13,12 @@ use Rattle.plasma_tx.specs.declared.rules.TheConstants.{CHALLENGE_WINDOW, RESPON
 use Rattle.plasma_tx.specs.Shown.{Tests, Rules}
 use Rattle.watch_duty.proofs.Members.{Has, any-has}
 use Rattle.world_rules.specs.Events.{Event, Joins, Watches, log_of}
-use Rattle.world_rules.specs.Safety.{holds, is_met}
+use Rattle.world_rules.specs.Safety.{holds}
 use Rattle.world_laws.specs.Legal.{IsLegal}
 use Rattle.world_laws.specs.Looked.{is_before, is_on_exit, is_on_coin, fulfils, are_fulfilled, is_guardian, has_look, goes_unseen, is_looked_after, has_recent_look, is_exited, is_looked_often}
 use Rattle.world_laws.proofs.Lists.{and-seen}
 use Rattle.world_laws.proofs.Earlier.{stood-before, clock-before}
-use Rattle.world_laws.proofs.Unseen.{EndsUnseen, OfExit, OfChallenge, IsUnseen, is_unseen}
+use Rattle.world_laws.proofs.Unseen.{EndsUnseen, IsUnseen, is_unseen}
 use Rattle.world_laws.proofs.Attended.{AsksOf, exit-asks, respond-asks}
 
 -- what fulfils more fulfils less
@@ -65,11 +66,7 @@ module _ (tests : Tests) (rules : Rules) (w c e time : ℕ) where
       && are_fulfilled (is_on_coin c) since offers) ≡ true
       → (is_guardian events w c e n && are_fulfilled is_asked since offers) ≡ true
   watch-recent is_asked asks n offers since events here =
-      let whole = and_parts (nat_lt time (now (log_of events) + RESPONSE_WINDOW) && is_guardian events w c e n)
-      (are_fulfilled (is_on_coin c) since offers) here in
-      and_from (is_guardian events w c e n) (are_fulfilled is_asked since offers)
-      (and_parts (nat_lt time (now (log_of events) + RESPONSE_WINDOW)) (is_guardian events w c e n) whole.0).1
-      (fulfilled-less c is_asked asks since offers whole.1)
+      grind (arith, common_steps, and_parts, and_from, fulfilled-less)
 
   -- an exit whose window is over by then began before the look
   exit-recent : (events : List Event) (since : List RootCall) (x : Exit) (b : ℕ) → IsLegal tests rules events
@@ -141,31 +138,17 @@ module _ (tests : Tests) (rules : Rules) (w c e time : ℕ) where
   -- a tick with a recent look ends nothing unseen
   recent-none : (events : List Event) → IsLegal tests rules events → has_recent_look time [] events w c e ≡ true
       → EndsUnseen events w c e time → ⊥
-  recent-none events legal recent (OfExit x there c_is met unseen) =
-      let over = leb-true (x.start + CHALLENGE_WINDOW) time
-      (and_parts (nat_lt (now (log_of events)) (x.start + CHALLENGE_WINDOW)) _ met).1 in
-      true≢false (sym (exit-recent events [] x x.block legal there c_is refl over recent) ∙ unseen)
-  recent-none events legal recent (OfChallenge x there c_is e_is ch has met unseen) =
-      let parts = and_parts (not ch.answered) (is_met (now (log_of events)) time (ch.at + RESPONSE_WINDOW)) met in
-      let over = leb-true (ch.at + RESPONSE_WINDOW) time
-      (and_parts (nat_lt (now (log_of events)) (ch.at + RESPONSE_WINDOW)) _ parts.1).1 in
-      true≢false (sym (challenge-recent events [] x ch.block ch legal there c_is e_is has refl (not-true _ parts.0) over
-      recent) ∙ unseen)
+  recent-none events legal recent h3 =
+      grind (arith, common_steps, leb-true, and_parts, true≢false, exit-recent, challenge-recent, not-true)
 
 -- an exit of the coin stands where a tick ends something unseen
 ends-exited : (events : List Event) (w c e time : ℕ) → EndsUnseen events w c e time → is_exited events c ≡ true
-ends-exited events w c e time (OfExit x there c_is met unseen) =
-    any-has (λ (y : Exit). y.coin == c) (exits (log_of events)) x there (eq-eqb x.coin c c_is)
-ends-exited events w c e time (OfChallenge x there c_is e_is ch has met unseen) =
-    any-has (λ (y : Exit). y.coin == c) (exits (log_of events)) x there (eq-eqb x.coin c c_is)
+ends-exited events w c e time h5 = grind (arith, common_steps, any-has, eq-eqb)
 
 often-before : (event : Event) (events : List Event) (w c e : ℕ) → is_looked_often (event ∷ events) w c e ≡ true
     → is_looked_often events w c e ≡ true
 unfolding is_looked_often
-often-before (Joins (Tick time)) events w c e often =
-    (and_parts (not (holds events w c e && is_exited events c && not (has_recent_look time [] events w c e)))
-    (is_looked_often events w c e) often).1
-often-before event events w c e often = often
+often-before event events w c e often = grind (arith, common_steps, and_parts)
 
 pub often_looked_after : (tests : Tests) (rules : Rules) (events : List Event) (w c e : ℕ)
     → IsLegal tests rules events → is_looked_often events w c e ≡ true → is_looked_after events w c e ≡ true

@@ -1,16 +1,16 @@
 -- The act of a line that isn't barred: its order lays nothing, and a commit that it enters is one that a node offers.
-use Rattle.std.proofs.Common.{◌≡◌, ℕ, Bool, true, false, Some, inl, inr, refl, sym, ap, ◌∙◌}
+use Rattle.std.proofs.Common.{◌≡◌, ℕ, Bool, true, false, Some, inl, inr, refl, sym, ap, ◌∙◌, arith}
 use Rattle.std.proofs.lemmas.Bool.{false≢true}
+use Rattle.std.proofs.lemmas.Grind.{common_steps}
 use Rattle.line_forms.proofs.FormLaws.{option_map_some}
 use Rattle.plasma_tx.specs.declared.call.RootCall.{RootCall}
 use Rattle.schedule_text.specs.declared.line.Line.{Line}
 use Rattle.schedule_text.specs.declared.command.Command.{Command}
-use Rattle.schedule_text.specs.declared.command.OperatorCommand.{OperatorCommand}
 use Rattle.schedule_text.specs.declared.call_form.CallForm.{CallForm}
 use Rattle.node_replies.specs.declared.order.NodeOrder.{NodeOrder}
 use Rattle.node_replies.specs.declared.order.OperatorOrder.{OperatorOrder}
-use Rattle.world_rules.specs.World.{Role, Wallet, Watcher, Operator, World, call_of, key_of}
-use Rattle.world_rules.specs.Orders.{wallet_order, order_of}
+use Rattle.world_rules.specs.World.{Role, World, call_of}
+use Rattle.world_rules.specs.Orders.{order_of}
 use Rattle.world_rules.specs.Laws.{IsCommandIn}
 use Rattle.world_rules.specs.Acts.{Origin, Plain, Deposits, Raw, Offered, Act, Enters, Orders, act_of}
 use Rattle.world_rules.specs.Evidence.{is_plain}
@@ -42,23 +42,13 @@ IsFree act = Unit {0}
 -- a call that a form makes, but for a commit
 form-none : (world : World) (account : ℕ) (form : CallForm) (call : RootCall)
     → is_barred (Line.Call account form) ≡ false → call_of world account form ≡ Some call → commits_root call ≡ false
-form-none world account (CallForm.Deposit amount key) call free is =
-    ap commits_root (sym (option_map_some (RootCall.Deposit account amount) (key_of world key) call is).2)
-form-none world account (CallForm.Commit root) call free is = absurd (false≢true (sym free))
-form-none world account form call free is = ap commits_root (sym (some_same _ call is))
+form-none world account form call free is = grind (arith, common_steps, option_map_some, false≢true, some_same)
 
 -- the order of a command that lays nothing
 lays-none : (world : World) (role : Role) (command : Command) (order : NodeOrder) → lays command ≡ false
     → order_of world role command ≡ Some order → lays_by order ≡ false
 unfolding order_of
-lays-none world role (Command.Wallet name own) order free is =
-    ap lays_by (sym (option_map_some NodeOrder.Wallet (wallet_order world own) order is).2)
-lays-none world role (Command.Operator (OperatorCommand.Lay coin leaf)) order free is = absurd (false≢true (sym free))
-lays-none world role (Command.Operator own) order free is = ap lays_by (sym (some_same _ order is))
-lays-none world Wallet (Command.Watch name) order free is = ap lays_by (sym (some_same _ order is))
-lays-none world Watcher (Command.Watch name) order free is = ap lays_by (sym (some_same _ order is))
-lays-none world Operator (Command.Watch name) order free is = absurd (cc is)
-lays-none world role command order free is = ap lays_by (sym (some_same _ order is))
+lays-none world role command order free is = grind (arith, common_steps, option_map_some, false≢true, some_same)
 
 -- money that comes in, and time, are no commit
 plain-none : (call : RootCall) → is_plain call ≡ true → commits_root call ≡ false

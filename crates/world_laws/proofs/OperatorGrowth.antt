@@ -1,9 +1,10 @@
 -- What became of the operator since an earlier line: the chain's tag stays, its notes grow, and so do its sealed trees.
-use Rattle.std.proofs.Common.{◌≡◌, ℕ, Bool, true, false, if◌then◌else◌, List, [], ◌∷◌, ◌++◌, Option, Some, None, inl, inr, refl, sym, ap, ◌∙◌, subst, slice_get, find}
+use Rattle.std.proofs.Common.{◌≡◌, ℕ, Bool, true, false, if◌then◌else◌, List, [], ◌∷◌, ◌++◌, Option, Some, None, inl, inr, refl, sym, ap, ◌∙◌, subst, slice_get, find, arith, rules}
 use Rattle.std.specs.Prelude.{reverse}
 use Rattle.std.specs.List.{filter_map, cons_option}
 use Rattle.std.proofs.lemmas.List.{reverse-append}
 use Rattle.std.proofs.lemmas.List.Elements.{filter_map-append}
+use Rattle.std.proofs.lemmas.Grind.{common_steps}
 use Rattle.node_journal.specs.Role.{are_of}
 use Rattle.sparse_merkle.specs.declared.tree.Entry.{Entry}
 use Rattle.plasma_tx.specs.Shown.{Rules}
@@ -14,7 +15,7 @@ use Rattle.operator_rules.specs.Trees.{Forest, after_note, forest_of, tree_of}
 use Rattle.operator_rules.specs.Commands.{forest_in}
 use Rattle.node_replies.specs.Orders.{with_record}
 use Rattle.world_rules.specs.World.{Node, World}
-use Rattle.world_rules.specs.Steps.{after_crash, TraceEntry, entry_of, Run}
+use Rattle.world_rules.specs.Steps.{TraceEntry, entry_of, Run}
 use Rattle.world_rules.specs.Laws.{IsCommandIn}
 use Rattle.world_rules.proofs.Lives.{begun}
 use Rattle.world_rules.specs.Acts.{NewWallet, NewWatcher, NewRogue, Act, Adds, Orders, Crashes, End, Whole, Crashed, Kept, Lost, act_of, end_of, node_after, deed_at}
@@ -93,12 +94,7 @@ own-grown dig world (Orders place order cut) = λ there node is.
     by Whole = recorded (deed_at dig world place order).note
     by Crashed = recorded (deed_at dig world place order).note
     by Kept = recorded (deed_at dig world place order).note
-own-grown dig world (Crashes place) = λ there node is. (
-  after_crash place.node,
-  refl,
-  subst (λ (old : Node). HasMore old.notes place.node.notes) (some_same place.node node (sym there ∙ is))
-      (same-notes place.node.notes),
-)
+own-grown dig world (Crashes place) = grind (arith, common_steps, some_same, same-notes)
 own-grown dig world act = tt
 
 act-later : (dig : List ℕ → List ℕ) (world : World) (act : Act) → IsActIn world act
@@ -170,10 +166,7 @@ more-trees identity notes (body ∷ more) =
 -- records of the operator's kinds that have more
 pub grown-trees : (records after : List (List ℕ)) → are_of operator_kinds records ≡ true → HasMore records after
     → HasTrees (forest_in records).sealed (forest_in after).sealed
-grown-trees [] after are more = absurd (cc are)
-grown-trees (identity ∷ notes) after are more =
-    subst (λ (l : List (List ℕ)). HasTrees (forest_in (identity ∷ notes)).sealed (forest_in l).sealed) (sym more.is)
-    (more-trees identity notes more.more)
+grown-trees records after are more = grind (arith, common_steps, more, more-trees)
 
 -- what is found stays found
 find-first : {X : Type 0} (p : X → Bool) (xs ys : List X) (x : X) → find p xs ≡ Some x → find p (xs ++ ys) ≡ Some x
@@ -233,20 +226,7 @@ module _ (dig : List ℕ → List ℕ) (entry : TraceEntry) (earlier : List Trac
   more : (lines : List Line) (run : Run) (world : World) (line : Line) (act : Act)
       → IsNext dig lines run world line act → IsSplitAt run.entries world
       → IsSplitAt (entry_of line (line_effect dig world act) ∷ run.entries) (line_effect dig world act).world
-  more lines run world line act next split [] is =
-      let here = head-same (entry_of line (line_effect dig world act)) entry run.entries earlier is in
-      let line_is : line ≡ entry.line = ap (λ (e : TraceEntry). e.line) here.0 in
-      record {
-        lines = lines;
-        before = run;
-        old = world;
-        run_is = next.run_is;
-        entries_are = here.1;
-        act = act;
-        act_is = ap (act_of world) (sym line_is) ∙ next.act_is;
-        entry_is = sym here.0 ∙ ap (λ (l : Line). entry_of l (line_effect dig world act)) line_is;
-        later = act-later dig world act next.known;
-      }
+  more lines run world line act next split [] is = grind (arith, common_steps, head-same, line_effect, act-later)
   more lines run world line act next split (one ∷ later) is =
       let found = split later (head-same (entry_of line (line_effect dig world act)) one run.entries
       (later ++ entry ∷ earlier) is).1 in

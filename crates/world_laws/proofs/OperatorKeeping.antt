@@ -1,14 +1,14 @@
 -- An operator that keeps to the rules: what its notes and the log are as acts, that these are honest, and that one
 -- more event leaves it so.
-use Rattle.std.proofs.Common.{◌≡◌, ℕ, suc, ◌+◌, ◌<◌, ◌≤◌, Bool, true, false, if◌then◌else◌, List, [], ◌∷◌, ◌++◌, length, filter, Some, Ok, refl, sym, ap, ◌∙◌, subst, slice_get, arith}
+use Rattle.std.proofs.Common.{◌≡◌, ℕ, suc, ◌+◌, ◌<◌, ◌≤◌, Bool, true, false, if◌then◌else◌, List, [], ◌∷◌, ◌++◌, Some, Ok, refl, sym, ap, ◌∙◌, subst, slice_get, arith}
 use Rattle.std.specs.Option.{option_and_then}
-use Rattle.std.specs.Str.{bytes_eq}
 use Rattle.std.proofs.lemmas.Bool.{true≢false, false≢true}
 use Rattle.std.proofs.lemmas.Slice.Eq.{bytes_eq-Decides}
+use Rattle.std.proofs.lemmas.Grind.{common_steps}
 use Rattle.line_forms.proofs.FormLaws.{and_then_some}
 use Rattle.node_journal.specs.Role.{are_of}
 use Rattle.sparse_merkle.specs.declared.tree.Entry.{Entry}
-use Rattle.sparse_merkle.specs.TreeDigest.{leaf_of, root_of}
+use Rattle.sparse_merkle.specs.TreeDigest.{leaf_of}
 use Rattle.plasma_tx.specs.declared.signed_tx.SignedTx.{SignedTx}
 use Rattle.plasma_tx.specs.declared.call.RootCall.{RootCall}
 use Rattle.plasma_tx.specs.Chain.{Chain, with_log}
@@ -19,7 +19,7 @@ use Rattle.plasma_tx.specs.Shown.{root_at}
 use Rattle.coin_history.proofs.HistoryGrow.{root_at-grown}
 use Rattle.watch_duty.proofs.Members.{Has}
 use Rattle.operator_rules.specs.Records.{Identity, Note, Offered, Laid, Sealed, operator_kinds, who_is, notes_of}
-use Rattle.operator_rules.specs.Trees.{Forest, after_note, forest_of, tree_of, tree_at, commits}
+use Rattle.operator_rules.specs.Trees.{Forest, after_note, forest_of, tree_of, tree_at}
 use Rattle.operator_rules.specs.Commands.{forest_in}
 use Rattle.operator_rules.specs.Acts.{Act, Called, Kept, log_of, kept_notes, sealed_in, times_committed, times_sealed, IsInTime, IsHonestNote, IsHonestCall, IsHonest}
 use Rattle.operator_rules.proofs.Trees.{root_at-le, root_at-new, tree_of-grow, count-push}
@@ -63,18 +63,12 @@ module _ (dig : List ℕ → List ℕ) (tag : List ℕ) where
   in-time-earlier : (log : List RootCall) (call : RootCall) (sealed : List (List Entry))
       → AreInTime dig tag (call ∷ log) sealed → AreInTime dig tag log sealed
   in-time-earlier log call sealed in_time n coin tree tx is signed =
-      let found = and_then_some (tree_of dig sealed) (root_at log n) tree is in
-      in_time n coin tree tx
-      (ap (option_and_then (tree_of dig sealed)) (root_at-grown log call n (root_at-le log n found.0 found.1)) ∙ is)
-      signed
+      grind (arith, common_steps, and_then_some, root_at-grown, root_at-le)
 
   in-time-sealed : (log : List RootCall) (sealed : List (List Entry)) (t : List Entry)
       → AreInTime dig tag log (sealed ++ t ∷ []) → AreInTime dig tag log sealed
   in-time-sealed log sealed t in_time n coin tree tx is signed =
-      let found = and_then_some (tree_of dig sealed) (root_at log n) tree is in
-      in_time n coin tree tx
-      (ap (option_and_then (tree_of dig (sealed ++ t ∷ []))) found.1
-      ∙ tree_of-grow dig sealed t found.0 tree found.2) signed
+      grind (arith, common_steps, and_then_some, tree_of-grow)
 
   in-time-note : (log : List RootCall) (note : Note) (forest : Forest)
       → AreInTime dig tag log (after_note note forest).sealed → AreInTime dig tag log forest.sealed
@@ -94,11 +88,7 @@ module _ (dig : List ℕ → List ℕ) (tag : List ℕ) where
 -- one more note makes no root rarer among the sealed trees
 sealed-more : (dig : List ℕ → List ℕ) (note : Note) (forest : Forest) (root : List ℕ)
     → times_sealed dig forest.sealed root ≤ times_sealed dig (after_note note forest).sealed root
-sealed-more dig (Offered bytes) forest root = omega arith
-sealed-more dig (Laid coin bytes) forest root = omega arith
-sealed-more dig Sealed forest root =
-    let more = count-push (λ tree. bytes_eq (root_of dig tree) root) forest.sealed forest.pool in
-    omega (arith, more)
+sealed-more dig note forest root = grind (arith, common_steps, count-push)
 
 -- ---- commits
 
@@ -142,19 +132,7 @@ module _ (dig : List ℕ → List ℕ) (events : List Event) (chain : Chain) (op
   -- of another node, or of none
   pub keeps-still : (event : Event) → is_command_of 0 event ≡ false → is_commit event ≡ false
       → IsKeeping dig (event ∷ events) chain op
-  keeps-still event other none = record {
-    role = keeping.role;
-    kinds = keeping.kinds;
-    tag = keeping.tag;
-    few = keeping.few;
-    acts = keeping.acts;
-    log_is = keeping.log_is;
-    notes_is = keeping.notes_is;
-    counted = keeping.counted;
-    waiting = λ account root has since.
-        keeping.waiting account root has (sym (since-same event events other none) ∙ since);
-    honest = keeping.honest;
-  }
+  keeps-still event other none = grind (arith, common_steps, since-same)
 
   -- a call that is no commit
   joins-other : (call : RootCall) → commits_root call ≡ false
@@ -214,16 +192,7 @@ module _ (dig : List ℕ → List ℕ) (events : List Event) (chain : Chain) (op
 
       more : (other : List ℕ) → times_committed (RootCall.Commit account root ∷ chain.log) other
           ≤ times_sealed dig (forest_in op.notes).sealed other
-      more other =
-          (elim (bytes_eq root other) as (λ b. bytes_eq root other ≡ b
-          → length (if b then RootCall.Commit account root ∷ filter (commits other) chain.log
-          else filter (commits other) chain.log) ≤ times_sealed dig (forest_in op.notes).sealed other) [
-            | true ↦ λ same.
-                let here = subst (λ (r : List ℕ). times_committed chain.log r
-                < times_sealed dig (forest_in op.notes).sealed r) ((bytes_eq-Decides root other).0 same) strict in
-                omega (arith, here)
-            | false ↦ λ apart. keeping.counted other
-          ]) refl
+      more other = grind (arith, common_steps, bytes_eq-Decides)
 
       now : AreInTime dig chain.tag (RootCall.Commit account root ∷ chain.log) (forest_in op.notes).sealed
           → (times_committed (log_of keeping.acts) root < times_sealed dig (sealed_in keeping.acts) root)
@@ -257,23 +226,7 @@ module _ (dig : List ℕ → List ℕ) (events : List Event) (chain : Chain) (op
   -- the operator's own command or crash that adds no note, after which it offers nothing
   pub keeps-own : (event : Event) (after : Node) → after.role ≡ op.role → after.notes ≡ op.notes
       → after.offers ≡ [] → IsKeeping dig (event ∷ events) chain after
-  keeps-own event after role notes none = record {
-    role = role ∙ keeping.role;
-    kinds = ap (are_of operator_kinds) notes ∙ keeping.kinds;
-    tag = ap (λ (records : List (List ℕ)). (who_is records).tag) notes ∙ keeping.tag;
-    few = keeping.few;
-    acts = keeping.acts;
-    log_is = keeping.log_is;
-    notes_is = keeping.notes_is ∙ ap notes_of (sym notes);
-    counted = λ root.
-        subst (λ (records : List (List ℕ)). times_committed chain.log root
-        ≤ times_sealed dig (forest_in records).sealed root) (sym notes) (keeping.counted root);
-    waiting = λ account root has since.
-        absurd (subst (λ (calls : List RootCall). Has calls (RootCall.Commit account root)) none has);
-    honest = λ in_time.
-        keeping.honest (subst (λ (records : List (List ℕ)).
-        AreInTime dig chain.tag chain.log (forest_in records).sealed) notes in_time);
-  }
+  keeps-own event after role notes none = grind (arith, common_steps)
 
   -- a command that adds a note
   pub keeps-note : (event : Event) (note : Note) (after : Node) → after.role ≡ op.role

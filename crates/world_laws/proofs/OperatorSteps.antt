@@ -2,11 +2,11 @@
 use Rattle.std.proofs.Common.{◌≡◌, ◌⊎◌, ℕ, zero, suc, ◌<◌, ◌≤◌, ◌==◌, Bool, true, false, if◌then◌else◌, List, [], ◌∷◌, ◌++◌, Option, Some, None, Ok, Err, inl, inr, refl, sym, ap, ◌∙◌, subst, set, slice_get, arith, lit<}
 use Rattle.std.specs.Prelude.{Result}
 use Rattle.std.specs.Option.{option_map_or}
-use Rattle.std.specs.Str.{bytes_eq}
 use Rattle.std.proofs.lemmas.Bool.{cases_eq, ne_eqb, true≢false, false≢true}
 use Rattle.std.proofs.lemmas.Option.{slice_get_within}
 use Rattle.std.proofs.lemmas.Slice.Eq.{bytes_eq-Decides}
-use Rattle.node_journal.specs.Effect.{Effect, first_cause, unless}
+use Rattle.std.proofs.lemmas.Grind.{common_steps}
+use Rattle.node_journal.specs.Effect.{Effect, unless}
 use Rattle.node_journal.specs.Role.{are_of}
 use Rattle.node_journal.proofs.Roles.{notes_follow}
 use Rattle.sparse_merkle.specs.TreeDigest.{root_of}
@@ -17,16 +17,15 @@ use Rattle.plasma_tx.specs.declared.answer.Answer.{Answer}
 use Rattle.plasma_tx.specs.declared.views.CoinView.{CoinView}
 use Rattle.plasma_tx.specs.Chain.{Chain, with_log}
 use Rattle.plasma_tx.specs.Spelling.{signed_in, AreBytes}
-use Rattle.plasma_tx.specs.Views.{blocks, coin_at}
+use Rattle.plasma_tx.specs.Views.{coin_at}
 use Rattle.plasma_tx.specs.Shown.{tests_by, rules_of}
 use Rattle.plasma_tx.specs.Table.{answer_to, is_accepted, log_after}
 use Rattle.schedule_text.specs.declared.line.Line.{Line}
 use Rattle.watch_duty.proofs.Members.{Has}
 use Rattle.operator_rules.specs.declared.refusal.OfferRefusal.{OfferRefusal}
-use Rattle.operator_rules.specs.Records.{Note, Offered, Sealed, note_text, operator_kinds, who_is, notes_of}
-use Rattle.operator_rules.specs.Trees.{Forest, after_note, forest_of, is_waiting}
-use Rattle.operator_rules.specs.Walk.{present}
-use Rattle.operator_rules.specs.Commands.{forest_in, offer_causes, offer_at, offer_of, offer_effect, seal_effect, prove_answer, bundle_answer, absences_answer}
+use Rattle.operator_rules.specs.Records.{Offered, Sealed, note_text, operator_kinds, who_is, notes_of}
+use Rattle.operator_rules.specs.Trees.{Forest, after_note, forest_of}
+use Rattle.operator_rules.specs.Commands.{forest_in, offer_at, offer_of, offer_effect, seal_effect, prove_answer, bundle_answer, absences_answer}
 use Rattle.operator_rules.specs.Acts.{log_of, kept_notes, times_committed, times_sealed}
 use Rattle.operator_rules.proofs.Role.{commands_keep_the_role, commands_add_their_notes}
 use Rattle.operator_rules.proofs.Trees.{one_if, count-push}
@@ -37,7 +36,7 @@ use Rattle.node_replies.specs.Orders.{with_record, Response, answered, on_pooled
 use Rattle.world_rules.specs.Events.{Event, Joins, Bounces, Other, Idle, node_in, is_command_of}
 use Rattle.world_rules.specs.World.{Operator, Node, World, is_wallet_role, is_watcher_role, is_operator_role}
 use Rattle.world_rules.specs.Deeds.{Deed, as_deed}
-use Rattle.world_rules.specs.Orders.{on_open, node_does}
+use Rattle.world_rules.specs.Orders.{node_does}
 use Rattle.world_rules.specs.Steps.{with_records, after_command, after_crash, Run}
 use Rattle.world_rules.proofs.KeptNode.{IsFitOrder}
 use Rattle.world_rules.proofs.OrderEnds.{each-answer}
@@ -82,11 +81,7 @@ module _ (dig : List ℕ → List ℕ) (tag : List ℕ) (log : List RootCall) (f
   offer-causes tx (Some why) = inl refl
 
   offer-made : (tx : SignedTx) (made : Option CoinView) → OfferEnds bytes (offer_at dig tag log forest bytes tx made)
-  offer-made tx None = inl refl
-  offer-made tx (Some made) =
-      offer-causes tx
-      (first_cause (offer_causes (blocks log) tx (present dig tag log forest.sealed tx.body.coin made)
-      (is_waiting dig log forest tx.body.coin)))
+  offer-made tx made = grind (arith, common_steps, offer-causes)
 
   offer-read : (r : Result SignedTx TxRefusal) → OfferEnds bytes (offer_of dig tag log forest bytes r)
   offer-read (Err why) = inl refl
@@ -135,11 +130,7 @@ module _ (dig : List ℕ → List ℕ) (log : List RootCall) (n : ℕ) (op : Nod
   own-deed : (order : NodeOrder) → lays_by order ≡ false → IsFitOrder order → op.role ≡ Operator
       → has_order order op.role ≡ true → IsOwnDeed (as_deed n order (node_does dig log op order))
   own-deed (NodeOrder.Operator order) free fit role may = operator-deed order free fit
-  own-deed NodeOrder.Open free fit role may = NoNote refl (opened op.is_up)
-    where
-      opened : (b : Bool) → (on_open op b).offers ≡ []
-      opened true = refl
-      opened false = refl
+  own-deed NodeOrder.Open free fit role may = grind (arith, common_steps)
   own-deed (NodeOrder.Wallet order) free fit role may = absurd (false≢true (sym (ap is_wallet_role role) ∙ may))
   own-deed (NodeOrder.Watcher order) free fit role may = absurd (false≢true (sym (ap is_watcher_role role) ∙ may))
 
@@ -164,13 +155,7 @@ module _ (dig : List ℕ → List ℕ) (events : List Event) (chain : Chain) (op
       → (after.offers ≡ deed.gives.offers) ⊎ (after.offers ≡ [])
       → IsKeeping dig (event ∷ events) chain after
   unfolding offer_effect seal_effect root_named
-  own-after event deed after (NoNote nothing none) role notes offers =
-      keeps-own dig events chain op keeping event after role
-      (notes ∙ ap (with_record op.notes) nothing)
-      (elim offers [
-        | inl same ↦ same ∙ none
-        | inr empty ↦ empty
-      ])
+  own-after event deed after (NoNote nothing none) role notes offers = grind (arith, common_steps, keeps-own)
   own-after event deed after (Pools bytes coin are taken noted note_is none) role notes offers =
       let body = note_text (Offered bytes) in
       let notes_are : after.notes ≡ op.notes ++ body ∷ [] = notes ∙ ap (with_record op.notes) note_is in
@@ -190,13 +175,7 @@ module _ (dig : List ℕ → List ℕ) (events : List Event) (chain : Chain) (op
       pool-honest : (bytes : List ℕ) (coin : ℕ) → (offer_effect dig op.notes chain.log bytes).answer ≡ Ok coin
           → (offer_of dig chain.tag (log_of keeping.acts) (forest_of (kept_notes keeping.acts)) bytes
           (signed_in chain.tag bytes)).answer ≡ Ok coin
-      pool-honest bytes coin taken =
-          subst (λ (notes : List Note). (offer_of dig chain.tag (log_of keeping.acts) (forest_of notes) bytes
-          (signed_in chain.tag bytes)).answer ≡ Ok coin) (sym keeping.notes_is)
-          (subst (λ (log : List RootCall). (offer_of dig chain.tag log (forest_in op.notes) bytes
-          (signed_in chain.tag bytes)).answer ≡ Ok coin) (sym keeping.log_is)
-          (subst (λ (tag : List ℕ). (offer_of dig tag chain.log (forest_in op.notes) bytes
-          (signed_in tag bytes)).answer ≡ Ok coin) keeping.tag taken))
+      pool-honest bytes coin taken = grind (arith, common_steps)
   own-after event deed after (SealsPool note_is calls_are) role notes offers =
       let body = note_text Sealed in
       let notes_are : after.notes ≡ op.notes ++ body ∷ [] = notes ∙ ap (with_record op.notes) note_is in
@@ -220,12 +199,7 @@ module _ (dig : List ℕ → List ℕ) (events : List Event) (chain : Chain) (op
 
       strict : times_committed chain.log pool_root
           < times_sealed dig (after_note Sealed (forest_in op.notes)).sealed pool_root
-      strict =
-          let before = keeping.counted pool_root in
-          let more = count-push (λ tree. bytes_eq (root_of dig tree) pool_root) (forest_in op.notes).sealed
-          (forest_in op.notes).pool in
-          let one = ap one_if ((bytes_eq-Decides pool_root pool_root).1 refl) in
-          omega (arith, before, more, one)
+      strict = grind (arith, common_steps, count-push, one_if, bytes_eq-Decides)
 
       waits : (account : ℕ) (root : List ℕ)
           → Has (RootCall.Commit (who_is op.notes).account pool_root ∷ []) (RootCall.Commit account root)

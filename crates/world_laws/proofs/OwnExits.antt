@@ -1,8 +1,9 @@
 -- Where a wallet's own exit comes from: a start that the wallet's leave offered. From then on no leaf sends the coin
 -- from there.
-use Rattle.std.proofs.Common.{◌≡◌, ◌⊎◌, ℕ, ◌==◌, ◌&&◌, ◌||◌, Bool, true, false, if◌then◌else◌, List, [], ◌∷◌, length, Some, inl, inr, refl, sym, ap, ◌∙◌, subst}
+use Rattle.std.proofs.Common.{◌≡◌, ◌⊎◌, ℕ, ◌==◌, ◌&&◌, ◌||◌, Bool, true, false, if◌then◌else◌, List, [], ◌∷◌, length, Some, inl, inr, refl, sym, ap, ◌∙◌, subst, arith, rules}
 use Rattle.std.specs.List.{AllByRecursion, list_any}
 use Rattle.std.proofs.lemmas.Bool.{eqb-true, eq-eqb, and_parts, and_from, or_cases, or_left, or_right, or_parts, true≢false, false≢true, false_from_ne_true}
+use Rattle.std.proofs.lemmas.Grind.{common_steps}
 use Rattle.plasma_tx.specs.declared.owner.Owner.{Owner}
 use Rattle.plasma_tx.specs.declared.body.Body.{Body}
 use Rattle.plasma_tx.specs.declared.call.RootCall.{RootCall}
@@ -111,33 +112,18 @@ module _ (tests : Tests) (rules : Rules) (log : List RootCall) (me : Owner) (c e
 left-grow : (event : Event) (events : List Event) (w c e : ℕ) → is_left (left_by events w) c e ≡ true
     → is_left (left_by (event ∷ events) w) c e ≡ true
 unfolding left_by
-left-grow (Leaves v call) events w c e is = either (v == w)
-  where
-    either : (b : Bool) → is_left (if b then call ∷ left_by events w else left_by events w) c e ≡ true
-    either true = or_right ((coin_of_call call == c) && (exit_block call == e)) (is_left (left_by events w) c e) is
-    either false = is
-left-grow event events w c e is = is
+left-grow event events w c e is = grind (arith, common_steps, or_right)
 
 left-has : (event : Event) (events : List Event) (w : ℕ) (call : RootCall) → Has (left_by events w) call
     → Has (left_by (event ∷ events) w) call
 unfolding left_by
-left-has (Leaves v made) events w call h = either (v == w)
-  where
-    either : (b : Bool) → Has (if b then made ∷ left_by events w else left_by events w) call
-    either true = inr h
-    either false = h
-left-has event events w call h = h
+left-has event events w call h = grind (arith, common_steps)
 
 -- one of the starts is of its coin and block
 pub left-is : (starts : List RootCall) (call : RootCall) → Has starts call
     → is_left starts (coin_of_call call) (exit_block call) ≡ true
 left-is [] call h = absurd h
-left-is (made ∷ starts) call (inl same) =
-    or_left ((coin_of_call made == coin_of_call call) && (exit_block made == exit_block call))
-    (is_left starts (coin_of_call call) (exit_block call))
-    (and_from (coin_of_call made == coin_of_call call) (exit_block made == exit_block call)
-    (eq-eqb (coin_of_call made) (coin_of_call call) (ap coin_of_call same))
-    (eq-eqb (exit_block made) (exit_block call) (ap exit_block same)))
+left-is (made ∷ starts) call (inl same) = grind (arith, common_steps, or_left, and_from, eq-eqb)
 left-is (made ∷ starts) call (inr there) =
     or_right ((coin_of_call made == coin_of_call call) && (exit_block made == exit_block call))
     (is_left starts (coin_of_call call) (exit_block call)) (left-is starts call there)
@@ -192,32 +178,16 @@ away-bind c e taken new bodies other off =
 
 names-not : (c e : ℕ) (body : Body) (starts : List RootCall) → is_left starts c e ≡ true
     → is_left starts body.coin body.parent ≡ false → names c e body ≡ false
-names-not c e body starts on off =
-    false_from_ne_true ((body.coin == c) && (body.parent == e)) (λ is.
-    let parts = and_parts (body.coin == c) (body.parent == e) is in
-    true≢false (sym on ∙ ap (λ k. is_left starts k e) (sym (eqb-true body.coin c parts.0))
-    ∙ ap (λ k. is_left starts body.coin k) (sym (eqb-true body.parent e parts.1)) ∙ off))
+names-not c e body starts on off = grind (arith, common_steps, false_from_ne_true, and_parts, true≢false, eqb-true)
 
 pub left-stands : (tests : Tests) (rules : Rules) (events : List Event) (w c e : ℕ) → IsLegal tests rules events
     → is_left (left_by events w) c e ≡ true → is_sent_from (signed_away_by events w) c e ≡ false
 unfolding left_by taken_back bound_by IsLegal
 left-stands tests rules [] w c e legal is = absurd (false≢true is)
 left-stands tests rules (Binds v body ∷ events) w c e legal is =
-    (elim (v == w) as (λ b. (v == w) ≡ b → is_sent_from
-    (not_taken (taken_back events w) (if b then body ∷ bound_by events w else bound_by events w)) c e ≡ false) [
-      | true ↦ λ same. away-bind c e (taken_back events w) body (bound_by events w)
-          (names-not c e body (left_by events w) is
-          (ap (λ x. is_left (left_by events x) body.coin body.parent) (sym (eqb-true v w same)) ∙ legal.0.not_left))
-          (left-stands tests rules events w c e legal.1 is)
-      | false ↦ λ apart. left-stands tests rules events w c e legal.1 is
-    ]) refl
+    grind (arith, common_steps, left-stands tests rules events w c e legal.1 is, away-bind, names-not, eqb-true)
 left-stands tests rules (TakesBack v q bundle ∷ events) w c e legal is =
-    elim (v == w) as (λ b. is_sent_from
-    (not_taken (if b then q ∷ taken_back events w else taken_back events w) (bound_by events w)) c e ≡ false) [
-      | true ↦ away-take q c e (taken_back events w) (bound_by events w)
-          (left-stands tests rules events w c e legal.1 is)
-      | false ↦ left-stands tests rules events w c e legal.1 is
-    ]
+    grind (arith, common_steps, left-stands tests rules events w c e legal.1 is, away-take)
 left-stands tests rules (Leaves v call ∷ events) w c e legal is =
     (elim (v == w) as (λ b. (v == w) ≡ b
     → is_left (if b then call ∷ left_by events w else left_by events w) c e ≡ true

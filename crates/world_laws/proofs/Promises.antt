@@ -1,6 +1,6 @@
 -- The promises of every schedule, from those of legal events: the events of a run are legal, and so are those up to
 -- each line.
-use Rattle.std.proofs.Common.{◌≡◌, ◌⊎◌, inl, inr, ◌≤◌, ℕ, ◌+◌, ◌||◌, true, false, if◌then◌else◌, List, [], ◌∷◌, ◌++◌, is_some, Contains, refl, sym, ap, ◌∙◌, subst, arith}
+use Rattle.std.proofs.Common.{◌≡◌, ◌⊎◌, inl, inr, ◌≤◌, ℕ, ◌+◌, ◌||◌, true, false, if◌then◌else◌, List, [], ◌∷◌, ◌++◌, is_some, Contains, refl, sym, ap, ◌∙◌, subst, arith, rules}
 use Rattle.std.specs.Prelude.{◌≢◌}
 use Rattle.std.specs.List.{list_any}
 use Rattle.std.proofs.Math.Nat.{le_refl}
@@ -28,6 +28,7 @@ use Rattle.world_rules.specs.declared.verdict.Exhibit.{Exhibit}
 use Rattle.world_rules.specs.Exhibits.{exhibit_of}
 use Rattle.world_rules.specs.Verdicts.{exhibit_of_run}
 use Rattle.std.specs.Option.{option_map_or}
+use Rattle.std.proofs.lemmas.Grind.{common_steps}
 use Rattle.world_rules.specs.Laws.{IsOfHeld}
 use Rattle.world_rules.proofs.VerdictLaws.{verdicts_are_of_held_coins}
 use Rattle.world_laws.proofs.Starts.{starts_are_taken}
@@ -66,11 +67,7 @@ declared-before [] account amount key earlier w c coin some =
     ap (λ b. if b then is_some (wallet_owner earlier w) else was_declared_before earlier w c)
     (eq-eqb c (coins (log_of earlier) + 1) coin) ∙ some
 declared-before (Joins (RootCall.Deposit other much its) ∷ later) account amount key earlier w c coin some =
-    let behind = later ++ Joins (RootCall.Deposit account amount key) ∷ earlier in
-    let more = coins-later later account amount key earlier in
-    ap (λ b. if b then is_some (wallet_owner behind w) else was_declared_before behind w c)
-    (ne_eqb c (coins (log_of behind) + 1) (λ same. omega (arith, same, coin, more)))
-    ∙ declared-before later account amount key earlier w c coin some
+    grind (arith, common_steps, declared-before later account amount key earlier w c coin some, coins-later, ne_eqb)
 declared-before (event ∷ later) account amount key earlier w c coin some =
     declared-before later account amount key earlier w c coin some
 

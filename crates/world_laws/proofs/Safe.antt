@@ -1,7 +1,8 @@
 -- A held coin that is looked after is safe, at every one of legal events.
-use Rattle.std.proofs.Common.{◌≡◌, ◌⊎◌, ℕ, ◌&&◌, not, true, false, List, [], ◌∷◌, Some, inl, inr, refl, sym, ap, ◌∙◌, subst, arith}
+use Rattle.std.proofs.Common.{◌≡◌, ℕ, ◌&&◌, not, true, false, List, [], ◌∷◌, Some, inl, inr, refl, sym, ap, ◌∙◌, subst, arith, rules}
 use Rattle.std.specs.List.{list_any}
 use Rattle.std.proofs.lemmas.Bool.{not-true, cases_Bool, and_parts, and_from, and_right, or_cases, or_left, or_right, not_from_false}
+use Rattle.std.proofs.lemmas.Grind.{common_steps}
 use Rattle.plasma_tx.specs.declared.owner.Owner.{Owner}
 use Rattle.plasma_tx.specs.declared.call.RootCall.{RootCall}
 use Rattle.plasma_tx.specs.declared.call.RootCall.TheVariants.{Tick}
@@ -77,12 +78,7 @@ module _ (dig : List ℕ → List ℕ) (digest : IsDigest dig) (rules : Rules) (
       omega (arith, low, high)
     where
       held_tip : (h : Holding events w c e) → is_tip events w h.me c e ≡ true
-      held_tip h = either h.source
-        where
-          either : (was_deposited h.me e (coin_at (log_of events) c) ≡ true)
-              ⊎ (list_any (is_bundle c e) (accepted events w) ≡ true) → is_tip events w h.me c e ≡ true
-          either (inl l) = or_left _ _ l
-          either (inr r) = or_right _ _ r
+      held_tip h = grind (arith, common_steps, or_left, or_right)
 
   ticks-kept : (call : RootCall) (events : List Event) → IsLegal (tests_by dig) rules events
       → has_clash dig (strings_of dig c (seen events c)) ≡ false → is_forged rules.tag events w c ≡ false

@@ -1,7 +1,8 @@
 -- What a wallet's command gives out that is answered with a leaf is the body that the leaf binds, with the signature.
-use Rattle.std.proofs.Common.{◌≡◌, ℕ, ◌^◌, ◌<◌, Bool, true, false, if◌then◌else◌, List, [], ◌∷◌, ◌++◌, Option, Some, None, refl, sym, ap, ◌∙◌, subst, bytes_eq}
+use Rattle.std.proofs.Common.{◌≡◌, ℕ, ◌^◌, ◌<◌, Bool, true, false, if◌then◌else◌, List, [], ◌∷◌, ◌++◌, Option, Some, None, refl, sym, ap, ◌∙◌, subst, arith}
 use Rattle.std.specs.Prelude.{Result, IfSome, slice_get, unwrap_or}
 use Rattle.std.proofs.lemmas.Bool.{and_parts, eq-eqb}
+use Rattle.std.proofs.lemmas.Grind.{common_steps}
 use Rattle.line_forms.proofs.FormLaws.{option_map_some}
 use Rattle.leaf_journal.specs.Records.{messages_of}
 use Rattle.lms_sign.specs.Tree.{signature_of}
@@ -23,8 +24,8 @@ use Rattle.node_rules.proofs.WalletTips.{tag-long, tip-fits}
 use Rattle.node_rules.proofs.WalletRole.{held-tip}
 use Rattle.node_replies.specs.declared.reply.Reply.{Reply}
 use Rattle.node_replies.specs.Causes.{wallet_cause}
-use Rattle.world_rules.specs.Events.{Event, Binds, Watches, Leaves, Seals, Other, bound_by, leaf_at}
-use Rattle.world_rules.specs.World.{Node, World, is_named, is_wallet_role, number_of, wallet_of}
+use Rattle.world_rules.specs.Events.{Event, Binds, Other, bound_by, leaf_at}
+use Rattle.world_rules.specs.World.{Node, World, is_wallet_role, number_of, wallet_of}
 use Rattle.world_rules.specs.Deeds.{Deed}
 use Rattle.node_replies.specs.declared.order.NodeOrder.{NodeOrder}
 use Rattle.node_replies.specs.declared.order.WalletOrder.{WalletOrder}
@@ -57,10 +58,7 @@ pub record IsMade (events : List Event) (n : ℕ) (node : Node) (event : Event) 
 pub cut-bound : (n m : ℕ) (event : Event) (events : List Event)
     → bound_by (without_offers n event ∷ events) m ≡ bound_by (event ∷ events) m
 unfolding bound_by
-cut-bound n m (Watches k calls) events = refl
-cut-bound n m (Leaves k call) events = refl
-cut-bound n m (Seals call) events = refl
-cut-bound n m event events = refl
+cut-bound n m event events = grind (arith, common_steps)
 
 -- ---- a wallet's commands
 
@@ -192,11 +190,7 @@ module _ (dig : List ℕ → List ℕ) (events : List Event) (world : World) (ke
   -- the node has a role that passes
   pub named-role : (name : List ℕ) (n : ℕ) (node : Node) → number_of is_wallet_role world name ≡ Some n
       → slice_get world.nodes n ≡ Some node → is_wallet_role node.role ≡ true
-  named-role name n node number at =
-      let found = position-is (is_named is_wallet_role name) world.nodes n number in
-      let same : found.0 ≡ node = some_same found.0 node (sym found.1 ∙ at) in
-      (and_parts (bytes_eq node.name name) (is_wallet_role node.role)
-      (ap (is_named is_wallet_role name) (sym same) ∙ found.2)).1
+  named-role name n node number at = grind (arith, common_steps, position-is, some_same, and_parts)
 
   -- the act of a line with a command of the wallet, cut or not, that answers with the leaf
   pub new-sent : (line : Line) (act : Act) (name : List ℕ) (own : WalletCommand) (q : ℕ) → IsFitAct act
@@ -218,13 +212,7 @@ module _ (dig : List ℕ → List ℕ) (events : List Event) (world : World) (ke
           → IsMade events place.number place.node deed.gives.event deed.gives.made k) → (end : End)
           → (end_effect world place deed end).reply ≡ Reply.Sent q
           → IsNew events world (end_effect world place deed end) name q
-      ended place deed at makes Whole sent = record {
-        n = place.number;
-        node = place.node;
-        number = at.number;
-        node_is = at.there;
-        made = makes q sent;
-      }
+      ended place deed at makes Whole sent = grind (arith, common_steps)
       ended place deed at makes Crashed sent = let made = makes q sent in record {
         n = place.number;
         node = place.node;

@@ -7,6 +7,7 @@ use Rattle.std.proofs.lemmas.Bool.{and_parts, cases_eq, eqb-true, eq-eqb, ne_eqb
 use Rattle.std.proofs.lemmas.List.{drop_all, length-map, length-reverse, reverse-append}
 use Rattle.std.proofs.lemmas.List.Elements.{All-contains}
 use Rattle.std.proofs.lemmas.Option.{slice_get-map}
+use Rattle.std.proofs.lemmas.Grind.{common_steps}
 use Rattle.leaf_journal.specs.Records.{messages_of}
 use Rattle.leaf_journal.proofs.KindRecords.{messages_pass}
 use Rattle.plasma_tx.specs.declared.body.Body.{Body}
@@ -90,11 +91,7 @@ module _ (dig : List ℕ → List ℕ) (s : Said) (log : List RootCall) (wallet 
     (kept : KeptWallet dig s log wallet) where
   -- the number of its bound leaves
   pub used-is : used wallet ≡ length s.bound
-  used-is =
-      let read : List ℕ → LeafRecord = λ message. record { body = body_at_start message } in
-      sym (length-map (messages_of wallet.leaves) read)
-      ∙ sym (length-map (leaves_in wallet.leaves) (λ (leaf : LeafRecord). leaf.body))
-      ∙ ap length kept.bodies ∙ length-reverse s.bound
+  used-is = grind (arith, common_steps, length-map, length-reverse)
 
   message-is : (message : List ℕ) → Has (messages_of wallet.leaves) message → is_body message ≡ true
   message-is message has =

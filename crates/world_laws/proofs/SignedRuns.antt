@@ -1,10 +1,10 @@
 -- Over every run, what a wallet's node gave out is what its leaf binds, so no leaf of its key signs two messages.
-use Rattle.std.proofs.Common.{◌≡◌, ℕ, zero, suc, true, List, [], ◌∷◌, ◌++◌, slice_get, find, Option, Some, None, inl, inr, refl, sym, ap, ◌∙◌, subst}
+use Rattle.std.proofs.Common.{◌≡◌, ℕ, true, List, [], ◌∷◌, ◌++◌, slice_get, Option, Some, None, inl, inr, refl, sym, ap, ◌∙◌, subst, arith}
 use Rattle.std.specs.Prelude.{option_map, option_and_then}
-use Rattle.std.specs.Option.{option_or}
 use Rattle.std.specs.List.{filter_map, cons_option}
 use Rattle.std.proofs.lemmas.Bool.{false≢true}
 use Rattle.std.proofs.lemmas.List.Folds.{find_at}
+use Rattle.std.proofs.lemmas.Grind.{common_steps}
 use Rattle.line_forms.proofs.FormLaws.{and_then_some, option_map_some}
 use Rattle.lms_sign.specs.Tree.{signature_of}
 use Rattle.plasma_tx.specs.declared.owner.Owner.{Owner}
@@ -18,8 +18,8 @@ use Rattle.node_rules.specs.WalletRecords.{secret_of, who_is}
 use Rattle.watch_duty.proofs.Members.{Has, has-contains, contains-has}
 use Rattle.node_replies.specs.declared.reply.Reply.{Reply}
 use Rattle.world_rules.specs.Events.{Event, bound_by, leaf_at}
-use Rattle.world_rules.specs.World.{Node, World, is_named, is_wallet_role, number_of, owner_of_node, owner_of_rogue, rogue_named, owner_named}
-use Rattle.world_rules.specs.Steps.{LineEffect, operator_node, new_chain, TraceEntry, entry_of, Run, events_of}
+use Rattle.world_rules.specs.World.{Node, World, is_wallet_role, number_of, owner_of_node, owner_named}
+use Rattle.world_rules.specs.Steps.{LineEffect, TraceEntry, entry_of, Run, events_of}
 use Rattle.world_rules.specs.Verdicts.{GivenOut, wallet_of_line, leaf_sent, given_by, given_out}
 use Rattle.world_rules.specs.Laws.{IsCommandIn}
 use Rattle.world_rules.proofs.Existence.{position-parts}
@@ -67,24 +67,7 @@ record IsSignedRun (entries : List TraceEntry) (world : World) : Type 0 where
 first-signed : (tag operator most : ℕ)
     → IsSignedRun (entry_of (Line.Chain tag operator most) (begun tag operator most) ∷ [])
     (begun tag operator most).world
-first-signed tag operator most = record { signed = signed; apart = apart }
-  where
-    signed : AreSigned (events_of (entry_of (Line.Chain tag operator most) (begun tag operator most) ∷ []))
-        (entry_of (Line.Chain tag operator most) (begun tag operator most) ∷ []) (begun tag operator most).world
-    signed entry (inl same) name own q (inl plain) sent =
-        let wrong : Line.Chain tag operator most ≡ Line.Command (Command.Wallet name own) =
-        ap (λ (e : TraceEntry). e.line) same ∙ plain in
-        absurd (cc wrong)
-    signed entry (inl same) name own q (inr in_cut) sent =
-        let wrong : Line.Chain tag operator most ≡ Line.Cut in_cut.0 in_cut.1 in_cut.2 (Command.Wallet name own) =
-        ap (λ (e : TraceEntry). e.line) same ∙ in_cut.3 in
-        absurd (cc wrong)
-    signed entry (inr none) name own q in_command sent = absurd none
-
-    apart : KeysApart (operator_node (new_chain tag operator most) ∷ [])
-    apart zero m one other one_is other_is one_role other_role key =
-        absurd (false≢true (ap (λ (x : Node). is_wallet_role x.role) (some_same _ one one_is) ∙ one_role))
-    apart (suc n) m one other one_is other_is one_role other_role key = absurd (none_some one one_is)
+first-signed tag operator most = grind (arith, common_steps, begun, false≢true, some_same, none_some)
 
 module _ (dig : List ℕ → List ℕ) (events : List Event) (entries : List TraceEntry) (world : World)
     (kept : KeptWorld dig events world) (line : Line) (act : Act) (fit : IsFitAct act)
@@ -164,11 +147,7 @@ module _ {X Y : Type 0} (read : X → Option Y) where
   has-read [] x y has is = absurd has
   has-read (z ∷ zs) x y (inl same) is =
       subst (λ (o : Option Y). Has (cons_option o (filter_map read zs)) y) (sym (ap read same ∙ is)) (inl refl)
-  has-read (z ∷ zs) x y (inr has) is =
-      elim (read z) as (λ (o : Option Y). Has (cons_option o (filter_map read zs)) y) [
-        | None ↦ has-read zs x y has is
-        | Some w ↦ inr (has-read zs x y has is)
-      ]
+  has-read (z ∷ zs) x y (inr has) is = grind (arith, common_steps, has-read zs x y has is)
 
   read-from : (xs : List X) (y : Y) → Has (filter_map read xs) y → (x : X) × Has xs x × (read x ≡ Some y)
   read-from [] y has = absurd has
@@ -210,13 +189,7 @@ sent-of reply q is = absurd (cc is)
 -- the owner that a wallet's name stands for
 owner-of : (world : World) (name : List ℕ) (n : ℕ) (node : Node) → number_of is_wallet_role world name ≡ Some n
     → slice_get world.nodes n ≡ Some node → owner_named world name ≡ Some (owner_of_node node)
-owner-of world name n node number node_is =
-    let named = is_named is_wallet_role name in
-    let found : find named world.nodes ≡ Some node =
-    find_at named world.nodes ∙ ap (slice_get world.nodes) (position-parts named world.nodes n number).0 ∙ node_is in
-    ap (λ (o : Option Node). option_or (option_map owner_of_node o)
-    (option_map owner_of_rogue (rogue_named world name)))
-    found
+owner-of world name n node number node_is = grind (arith, common_steps, find_at, position-parts)
 
 abbrev given-of : ℕ → List ℕ → Owner → GivenOut
 given-of leaf made owner = record { key = owner.key; leaf = leaf; bytes = made }
@@ -224,12 +197,7 @@ given-of leaf made owner = record { key = owner.key; leaf = leaf; bytes = made }
 given-by : (world : World) (entry : TraceEntry) (name : List ℕ) (own : WalletCommand) (q : ℕ) (owner : Owner)
     → IsCommandIn entry.line (Command.Wallet name own) → entry.reply ≡ Reply.Sent q
     → owner_named world name ≡ Some owner → given_by world entry ≡ Some (given-of q entry.made owner)
-given-by world entry name own q owner in_command sent owner_is =
-    ap (λ (r : Reply). option_and_then (λ leaf. option_map (given-of leaf entry.made)
-    (option_and_then (owner_named world) (wallet_of_line entry.line))) (leaf_sent r)) sent
-    ∙ ap (λ (o : Option (List ℕ)). option_map (given-of q entry.made) (option_and_then (owner_named world) o))
-    (wallet-of entry.line name own in_command)
-    ∙ ap (option_map (given-of q entry.made)) owner_is
+given-by world entry name own q owner in_command sent owner_is = grind (arith, common_steps, wallet-of)
 
 -- ---- the laws
 

@@ -1,17 +1,18 @@
 -- What stays of a wallet as lines follow: the number that its name has, who it is, and what its leaves bind; and that
 -- no two wallets have one key.
-use Rattle.std.proofs.Common.{◌≡◌, ◌⊎◌, ℕ, zero, suc, ◌+◌, ◌<◌, ◌==◌, ◌&&◌, ◌||◌, not, cond, Bool, true, false, if◌then◌else◌, List, [], ◌∷◌, ◌++◌, length, set, slice_get, bytes_eq, Option, Some, None, inl, inr, refl, sym, ap, ◌∙◌, subst, arith}
+use Rattle.std.proofs.Common.{◌≡◌, ◌⊎◌, ℕ, zero, suc, ◌+◌, ◌<◌, ◌||◌, not, cond, Bool, true, false, List, [], ◌∷◌, ◌++◌, length, set, slice_get, bytes_eq, Option, Some, None, inl, inr, refl, sym, ap, ◌∙◌, subst, arith}
 use Rattle.std.specs.List.{position, position_or_len}
 use Rattle.std.proofs.lemmas.Bool.{and_parts, or_parts, not-true, cases_eq, lt-ltb, true≢false, false≢true}
 use Rattle.std.proofs.lemmas.List.{length-set, length_push}
 use Rattle.std.proofs.lemmas.Slice.Eq.{bytes_eq-Decides}
+use Rattle.std.proofs.lemmas.Grind.{common_steps}
 use Rattle.plasma_tx.specs.declared.body.Body.{Body}
 use Rattle.plasma_tx.specs.declared.call.RootCall.{RootCall}
 use Rattle.node_journal.specs.Role.{are_of}
 use Rattle.node_rules.specs.declared.identity.WalletIdentity.{WalletIdentity}
 use Rattle.node_rules.specs.WalletRecords.{wallet_kinds, identity_text, who_is, owner_of}
 use Rattle.node_rules.proofs.WalletGrow.{who-same, wallet-parts}
-use Rattle.world_rules.specs.Events.{Event, Binds, bound_by, leaf_at}
+use Rattle.world_rules.specs.Events.{Event, bound_by, leaf_at}
 use Rattle.world_rules.specs.World.{Wallet, Node, World, is_named, is_wallet_role, owner_of_node, wallet_of}
 use Rattle.world_rules.specs.Declarations.{is_wallet_key, is_wallet_seed, may_be_wallet}
 use Rattle.node_replies.specs.Orders.{with_record}
@@ -45,13 +46,7 @@ module _ {X : Type 0} (p : X → Bool) where
   position-push : (xs : List X) (new : X) → position_or_len p xs < length xs
       → position_or_len p (xs ++ new ∷ []) ≡ position_or_len p xs
   position-push [] new below = absurd (omega (arith, below))
-  position-push (x ∷ xs) new below = by (p x) below (position-push xs new)
-    where
-      by : (b : Bool) → cond (not b) (1 + position_or_len p xs) 0 < suc (length xs)
-          → (position_or_len p xs < length xs → position_or_len p (xs ++ new ∷ []) ≡ position_or_len p xs)
-          → cond (not b) (1 + position_or_len p (xs ++ new ∷ [])) 0 ≡ cond (not b) (1 + position_or_len p xs) 0
-      by true below rest = refl
-      by false below rest = ap (λ (r : ℕ). 1 + r) (rest (omega (arith, below)))
+  position-push (x ∷ xs) new below = grind (arith, common_steps, position-push xs new)
 
   position-from : (xs : List X) (n : ℕ) → position_or_len p xs ≡ n → n < length xs → position p xs ≡ Some n
   position-from xs n is below =
@@ -81,10 +76,7 @@ module _ (dig : List ℕ → List ℕ) (events : List Event) (world : World) (ke
 
   who-changed : (n : ℕ) (node after : Node) → slice_get world.nodes n ≡ Some node → is_wallet_role node.role ≡ true
       → GrowsAtMost node after → who_is after.notes ≡ who_is node.notes
-  who-changed n node after node_is role grows = elim grows.notes [
-    | inl same ↦ ap who_is same
-    | inr more ↦ ap who_is more.0.1 ∙ who-more n node more.0.0 node_is role
-  ]
+  who-changed n node after node_is role grows = grind (arith, common_steps, who-more, role)
 
   -- ---- a wallet by its name
 
@@ -125,25 +117,11 @@ module _ (dig : List ℕ → List ℕ) (events : List Event) (world : World) (ke
     ]
       where
         placed : position passes (set world.nodes k new) ≡ Some n
-        placed =
-            let parts = position-parts passes world.nodes n number in
-            let long : length (set world.nodes k new) ≡ length world.nodes = length-set world.nodes k new in
-            position-from passes (set world.nodes k new) n
-            (position-set passes world.nodes k old new old_is
-            (λ i. bytes_eq (grows.name i) name && is_wallet_role (grows.role i)) ∙ parts.0)
-            (omega (arith, parts.0, parts.1, long))
+        placed = grind (arith, common_steps, position-parts, length-set, position-from, position-set)
 
     stays-pushed : (new : Node) → Stays (world.nodes ++ new ∷ []) name n node
     stays-pushed new =
-        let parts = position-parts passes world.nodes n number in
-        let long : length (world.nodes ++ new ∷ []) ≡ length world.nodes + 1 = length_push world.nodes new in
-        record {
-          new = node;
-          number = position-from passes (world.nodes ++ new ∷ []) n
-              (position-push passes world.nodes new parts.1 ∙ parts.0) (omega (arith, parts.0, parts.1, long));
-          is_new = push-other world.nodes new n (λ same. omega (arith, same, parts.0, parts.1)) ∙ node_is;
-          who = refl;
-        }
+        grind (arith, common_steps, position-parts, length_push, position-from, position-push, push-other)
 
     pub stays : (after : List Node) → NodesGrow world after → Stays after name n node
     stays after (inl same) =
@@ -159,12 +137,7 @@ module _ (dig : List ℕ → List ℕ) (events : List Event) (world : World) (ke
 pub leaf-stays : (event : Event) (events : List Event) (n q : ℕ) (body : Body)
     → leaf_at q (bound_by events n) ≡ Some body → leaf_at q (bound_by (event ∷ events) n) ≡ Some body
 unfolding bound_by
-leaf-stays (Binds v new) events n q body is =
-    (elim (v == n) as (λ b. leaf_at q (if b then new ∷ bound_by events n else bound_by events n) ≡ Some body) [
-      | true ↦ leaf_at-push q new (bound_by events n) body is
-      | false ↦ is
-    ])
-leaf-stays event events n q body is = is
+leaf-stays event events n q body is = grind (arith, common_steps, leaf_at-push)
 
 -- ---- keys
 

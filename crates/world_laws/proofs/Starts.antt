@@ -1,10 +1,11 @@
 -- A start that a wallet offers is taken while the wallet holds the coin there.
-use Rattle.std.proofs.Common.{◌≡◌, ℕ, suc, ◌+◌, ◌-◌, ◌<◌, ◌==◌, not, Bool, true, false, if◌then◌else◌, List, [], ◌∷◌, ◌++◌, length, take, Option, Some, None, inl, inr, refl, sym, ap, ◌∙◌, subst, arith}
-use Rattle.std.specs.Prelude.{is_some, nat_lt, slice_get}
+use Rattle.std.proofs.Common.{◌≡◌, ℕ, suc, ◌+◌, ◌-◌, ◌<◌, ◌==◌, not, Bool, true, false, if◌then◌else◌, List, [], ◌∷◌, ◌++◌, length, take, Option, Some, None, inl, inr, refl, sym, ap, ◌∙◌, subst, arith, rules}
+use Rattle.std.specs.Prelude.{is_some, slice_get}
 use Rattle.std.specs.Option.{option_map, option_map_or}
 use Rattle.std.specs.List.{AllByRecursion}
 use Rattle.std.proofs.lemmas.Bool.{eq-eqb, eqb-true, lt-ltb, ltb-true, and_from, not_from_true, true≢false}
 use Rattle.std.proofs.lemmas.List.Elements.{recursion_from_All}
+use Rattle.std.proofs.lemmas.Grind.{common_steps}
 use Rattle.plasma_tx.specs.declared.owner.Owner.{Owner}
 use Rattle.plasma_tx.specs.declared.opening.RawOpening.{RawOpening}
 use Rattle.plasma_tx.specs.declared.signed_tx.SignedTx.{SignedTx}
@@ -17,14 +18,13 @@ use Rattle.plasma_tx.specs.declared.call.RootCall.TheVariants.{StartDeposit, Sta
 use Rattle.plasma_tx.specs.declared.answer.Answer.{Answer}
 use Rattle.plasma_tx.specs.declared.answer.Answer.TheVariants.{Started, Refused}
 use Rattle.plasma_tx.specs.declared.answer.Refusal.{Refusal}
-use Rattle.plasma_tx.specs.declared.answer.Refusal.TheVariants.{Withdrawn, BadBlock, NotOwner, ExitStands, BadOpening, NotChild, BadSignature, NoFunds}
+use Rattle.plasma_tx.specs.declared.answer.Refusal.TheVariants.{Withdrawn, BadBlock, NotOwner, ExitStands, BadOpening, NotChild, BadSignature}
 use Rattle.plasma_tx.specs.declared.views.CoinView.{CoinView}
 use Rattle.plasma_tx.specs.Links.{last_spend, tip_of, last_owner_of}
 use Rattle.plasma_tx.specs.Views.{now, coin_at, exit_at, block_of, is_withdrawn}
 use Rattle.plasma_tx.specs.declared.rules.TheConstants.{EXIT_BOND, EXIT_PERIOD}
 use Rattle.plasma_tx.specs.Shown.{Tests, Rules, tests_by, root_at, shown_tx, shown_owner}
-use Rattle.plasma_tx.specs.Table.{Cause, decided, too_poor, is_committed_after, is_parent_of, may_exit_at, start_deposit_causes, start_spend_causes, where_coin, answer_to, is_accepted}
-use Rattle.plasma_tx.specs.Money.{balance_of}
+use Rattle.plasma_tx.specs.Table.{Cause, decided, too_poor, is_committed_after, is_parent_of, may_exit_at, start_spend_causes, where_coin, answer_to, is_accepted}
 use Rattle.plasma_tx.specs.Accepted.{ShowsTx}
 use Rattle.plasma_tx.proofs.Acceptance.{transfers_are_shown}
 use Rattle.coin_history.specs.declared.bundle.Bundle.{Bundle}
@@ -68,17 +68,7 @@ skip-all P (cause ∷ causes) rest effect off taken =
 last-causes : (log : List RootCall) (account c e : ℕ) (effect : Answer) → is_accepted effect ≡ true
     → IsTakenAt log account c e
     (decided ((is_some (exit_at log c e), ExitStands) ∷ too_poor log account EXIT_BOND ∷ []) effect)
-last-causes log account c e effect is = by (is_some (exit_at log c e)) refl
-  where
-    by : (stands : Bool) → is_some (exit_at log c e) ≡ stands
-        → IsTakenAt log account c e (decided ((stands, ExitStands) ∷ too_poor log account EXIT_BOND ∷ []) effect)
-    by true stands = inr (inl (refl, stands))
-    by false stands =
-        (elim (nat_lt (balance_of log account) EXIT_BOND) as (λ b. nat_lt (balance_of log account) EXIT_BOND ≡ b
-        → IsTakenAt log account c e (if b then Refused (NoFunds (balance_of log account) EXIT_BOND) else effect)) [
-          | true ↦ λ poor. inr (inr (refl, ltb-true _ _ poor))
-          | false ↦ λ rich. inl is
-        ]) refl
+last-causes log account c e effect is = grind (arith, common_steps, ltb-true)
 
 -- ---- the last link, and those before it
 
@@ -134,21 +124,7 @@ module _ (tests : Tests) (rules : Rules) (log : List RootCall) (b : Bundle) (mad
   deposit-taken : b.tip ≡ made.deposit → me.account ≡ made.owner.account
       → IsTakenAt log me.account b.coin b.tip (answer_to tests rules log (StartDeposit me.account b.coin b.tip))
   unfolding answer_to
-  deposit-taken tip account =
-      subst (λ (o : Option CoinView). IsTakenAt log me.account b.coin b.tip (where_coin o (λ coin. decided
-      (start_deposit_causes log me.account b.coin b.tip coin) (Started (now log + EXIT_PERIOD))))) (sym found)
-      (skip-all (IsTakenAt log me.account b.coin b.tip)
-      ((is_withdrawn log b.coin, Withdrawn) ∷ (not (b.tip == made.deposit), BadBlock)
-      ∷ (not (me.account == made.owner.account), NotOwner) ∷ [])
-      ((is_some (exit_at log b.coin b.tip), ExitStands) ∷ too_poor log me.account EXIT_BOND ∷ [])
-      (Started (now log + EXIT_PERIOD)) (
-        alive,
-        (
-          not_from_true _ (eq-eqb b.tip made.deposit tip),
-          (not_from_true _ (eq-eqb me.account made.owner.account account), tt),
-        ),
-      )
-      (last-causes log me.account b.coin b.tip (Started (now log + EXIT_PERIOD)) refl))
+  deposit-taken tip account = grind (arith, common_steps, skip-all, not_from_true, eq-eqb, last-causes)
 
   spend-taken : (parent : Shown) (owner : Owner) (exit : RawOpening) (tx : SignedTx)
       → shown_owner tests rules log b.coin parent ≡ Some owner → ShowsTx tests rules log b.coin exit tx
@@ -251,11 +227,7 @@ module _ (tests : Tests) (rules : Rules) (log : List RootCall) (b : Bundle) (mad
       by_last : (o : Option Link) → last_spend (links_of rules made b) ≡ o
           → IsTaken log me.account (start_by me.account b.tip (links_of rules made b) o)
           (answer_to tests rules log (start_by me.account b.tip (links_of rules made b) o))
-      by_last None none =
-          deposit-taken
-          (sym end ∙ ap (λ (o : Option Link). option_map_or (λ (l : Link). l.block) o made.deposit) none)
-          (ap (λ (w : Owner). w.account) (sym mine
-          ∙ ap (λ (o : Option Link). option_map_or (λ (l : Link). l.tx.body.to) o made.owner) none))
+      by_last None none = grind (arith, common_steps, deposit-taken)
       by_last (Some link) some =
           let r = split (links_in rules b.coin b.openings) link some in
           let to : link.tx.body.to ≡ me =
@@ -361,19 +333,11 @@ module _ (tests : Tests) (rules : Rules) where
 
 -- the coin of a start
 start-coin : (account tip : ℕ) (links : Links) → coin_of_call (start_of account tip links) ≡ links.coin
-start-coin account tip links = by_last (last_spend links)
-  where
-    by_last : (o : Option Link) → coin_of_call (start_by account tip links o) ≡ links.coin
-    by_last None = refl
-    by_last (Some link) = refl
+start-coin account tip links = grind (arith, common_steps)
 
 -- its account
 start-starter : (account tip : ℕ) (links : Links) → starter (start_of account tip links) ≡ Some account
-start-starter account tip links = by_last (last_spend links)
-  where
-    by_last : (o : Option Link) → starter (start_by account tip links o) ≡ Some account
-    by_last None = refl
-    by_last (Some link) = refl
+start-starter account tip links = grind (arith, common_steps)
 
 pub starts_are_taken : LegalStartsAreTaken
 starts_are_taken dig rules events w account call legal offer start held =

@@ -1,18 +1,18 @@
 -- An accepted call keeps what holds of each exit of a held coin.
-use Rattle.std.proofs.Common.{◌≡◌, ◌≢◌, ◌⊎◌, ℕ, ◌+◌, ◌<◌, ◌≤◌, ◌==◌, ◌&&◌, not, Bool, true, false, if◌then◌else◌, List, [], ◌∷◌, ◌++◌, Some, inl, inr, refl, sym, ap, ◌∙◌, subst, arith}
+use Rattle.std.proofs.Common.{◌≡◌, ◌≢◌, ◌⊎◌, ℕ, ◌+◌, ◌<◌, ◌≤◌, ◌==◌, not, Bool, true, false, if◌then◌else◌, List, [], ◌∷◌, ◌++◌, Some, inl, inr, refl, sym, ap, ◌∙◌, subst, arith, rules}
 use Rattle.std.specs.Prelude.{is_some, is_none, nat_lt}
 use Rattle.std.specs.List.{AllByRecursion}
 use Rattle.std.proofs.lemmas.Bool.{eqb-true, cases_Bool, cases_eq, cases_order, eq-eqb, ltb-true, and_parts, and_from, true≢false, false_from_ne_true}
+use Rattle.std.proofs.lemmas.Grind.{common_steps}
 use Rattle.plasma_tx.specs.declared.owner.Owner.{Owner}
 use Rattle.plasma_tx.specs.declared.opening.RawOpening.{RawOpening}
 use Rattle.plasma_tx.specs.declared.links.Link.{Link}
 use Rattle.plasma_tx.specs.declared.call.Shown.{Shown}
-use Rattle.plasma_tx.specs.declared.call.Shown.TheVariants.{Deposit as AtDeposit, Spend}
 use Rattle.plasma_tx.specs.declared.call.RootCall.{RootCall}
 use Rattle.plasma_tx.specs.declared.call.RootCall.TheVariants.{Fund, Tick, Deposit, Commit, StartDeposit, StartSpend, After, Between, Before, Respond, Finish}
 use Rattle.plasma_tx.specs.declared.views.CoinView.{CoinView}
 use Rattle.plasma_tx.specs.Laws.{is_challenged_at}
-use Rattle.plasma_tx.specs.Views.{now, coin_at, coins, new_coin, Challenge, Exit, is_exit, exits, exit_at, block_of, deposit_exit, spend_exit, without_exit, challenge_at, with_challenge, with_answer, new_challenge}
+use Rattle.plasma_tx.specs.Views.{now, coin_at, coins, new_coin, Challenge, Exit, is_exit, exits, exit_at, block_of, spend_exit, without_exit, challenge_at, with_challenge, with_answer, new_challenge}
 use Rattle.plasma_tx.proofs.Answered.{new_challenges_are_open}
 use Rattle.plasma_tx.specs.declared.rules.TheConstants.{CHALLENGE_WINDOW, RESPONSE_WINDOW}
 use Rattle.plasma_tx.specs.Shown.{Tests, Rules, root_at}
@@ -66,12 +66,7 @@ stands log x h =
 -- a parent is before the exit
 parent-below : (log : List RootCall) (made : CoinView) (exit : ℕ) (parent : Shown) → made.deposit < exit
     → is_parent_of log made exit parent ≡ true → block_of parent < exit
-parent-below log made exit (AtDeposit block) low fits =
-    let at = eqb-true block made.deposit fits in omega (arith, at, low)
-parent-below log made exit (Spend opening) low fits =
-    ltb-true opening.block exit
-    (and_parts (is_some (root_at log opening.block) && nat_lt made.deposit opening.block) (nat_lt opening.block exit)
-    fits).1
+parent-below log made exit parent low fits = grind (arith, common_steps, eqb-true, ltb-true, and_parts)
 
 -- what is seen of an exit of the held coin
 pub record OfHeld (tests : Tests) (rules : Rules) (events : List Event) (c : ℕ) (made : CoinView) (x : Exit)
@@ -121,11 +116,7 @@ module _ (tests : Tests) (rules : Rules) (signs : SignsBy tests) (events : List 
   Watched xs = AllWatched c at.hold.me e (now (log_of events)) xs
 
   pub e-positive : 0 < e
-  e-positive =
-      let positive = deposit-above (log_of events) c at.held.made at.held.made_is in
-      let up = walk-passes tests rules (log_of events) c at.held.made.deposit (place_of at.held.made)
-      at.held.openings (record { block = e; owner = at.hold.me }) at.held.known.walk in
-      omega (arith, positive, up)
+  e-positive = grind (arith, common_steps, deposit-above, walk-passes, place_of)
 
   mine-owner : (x : Exit) → x.account ≡ x.owner.account → x.owner ≡ at.hold.me → is_mine at.hold.me x ≡ false → ⊥
   mine-owner x account same other =
@@ -196,12 +187,7 @@ module _ (tests : Tests) (rules : Rules) (signs : SignsBy tests) (events : List 
           ]
 
   parent-le : (x : Exit) → OfHeld tests rules events c at.held.made x → x.block ≡ e → x.parent ≤ e
-  parent-le x of at_tip = by_begun of.begun
-    where
-      by_begun : IsBegun tests rules (log_of events) (seen events c) c at.held.made x.block x.parent x.owner
-          x.parent_owner → x.parent ≤ e
-      by_begun (OfDeposit block parent owner) = omega arith
-      by_begun (OfSpend s opened low parent shown below) = omega arith
+  parent-le x of at_tip = grind (arith, common_steps)
 
   -- the answer to an open challenge of the own exit is due in its time
   pub mine-due : (offers : List RootCall) (g : OffersDue tests rules events c at.held.made e offers) (x : Exit)
@@ -228,12 +214,7 @@ module _ (tests : Tests) (rules : Rules) (signs : SignsBy tests) (events : List 
       → AllWatched c at.hold.me e (now (log_of events)) (exits (StartDeposit account k block ∷ log_of events))
   unfolding exits
   keeps-StartDeposit account k block own is all =
-      all-append (IfOf c at.hold.me e (now (log_of events))) (without_exit k block (exits (log_of events)))
-      (deposit_exit (log_of events) account k block)
-      (all-filter (IfOf c at.hold.me e (now (log_of events))) (λ (x : Exit). not (is_exit k block x))
-      (exits (log_of events)) all)
-      (λ c_is. new-watched c at.hold.me e (now (log_of events)) (deposit_exit (log_of events) account k block)
-      (λ z. let positive = e-positive in absurd (omega (arith, positive, z))) (λ mine. own mine c_is) refl refl)
+      grind (arith, common_steps, all-append, all-filter, new-watched, e-positive)
 
   -- a start of a transfer's exit
   keeps-StartSpend : (account k : ℕ) (parent : Shown) (exit : RawOpening)

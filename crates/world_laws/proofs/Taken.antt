@@ -1,16 +1,17 @@
 -- A coin that was taken went unseen before at some tick, unless the events exhibit.
-use Rattle.std.proofs.Common.{◌≡◌, ℕ, true, false, if◌then◌else◌, List, [], ◌∷◌, ◌++◌, Option, Some, None, inl, inr, refl, sym, ap, ◌∙◌}
+use Rattle.std.proofs.Common.{◌≡◌, ℕ, true, false, if◌then◌else◌, List, [], ◌∷◌, ◌++◌, Option, Some, None, inl, inr, refl, sym, ap, ◌∙◌, arith, rules}
 use Rattle.std.specs.Prelude.{is_none}
 use Rattle.std.specs.Option.{option_or}
 use Rattle.std.proofs.lemmas.Bool.{cases_Bool, and_from, not_from_false, false≢true}
+use Rattle.std.proofs.lemmas.Grind.{common_steps}
 use Rattle.plasma_tx.specs.declared.owner.Owner.{Owner}
 use Rattle.plasma_tx.specs.Shown.{Rules, tests_by}
 use Rattle.world_rules.specs.declared.verdict.VerdictKind.{VerdictKind}
 use Rattle.world_rules.specs.declared.verdict.Exhibit.{Exhibit}
 use Rattle.world_rules.specs.Laws.{IsDigest}
-use Rattle.world_rules.specs.Events.{Event, wallet_owner, signed_away_by, is_sent_from}
+use Rattle.world_rules.specs.Events.{Event, wallet_owner}
 use Rattle.world_rules.specs.Exhibits.{exhibit_of}
-use Rattle.world_rules.specs.Verdicts.{takes_from, before_taking, first_unattended, exit_was_paid, lost_or, taken_or, verdict_at}
+use Rattle.world_rules.specs.Verdicts.{takes_from, before_taking, first_unattended, exit_was_paid, lost_or, verdict_at}
 use Rattle.world_laws.specs.Legal.{IsLegal}
 use Rattle.world_laws.specs.LegalLaws.{LegalLostIsExhibited}
 use Rattle.world_laws.specs.Looked.{goes_unseen, is_looked_after, is_taken_kind}
@@ -34,30 +35,7 @@ module _ (dig : List ℕ → List ℕ) (rules : Rules) (me : Owner) (w c e : ℕ
   taken-at : (events : List Event) → is_taken_kind (verdict_at (tests_by dig) rules events me w c e) ≡ true
       → IsTakenAt dig rules events me w c e (verdict_at (tests_by dig) rules events me w c e)
   unfolding verdict_at
-  taken-at events is =
-      (elim (is_sent_from (signed_away_by events w) c e) as (λ b. is_taken_kind (if b then VerdictKind.Away
-      else if exit_was_paid (tests_by dig) rules events me c e then VerdictKind.Paid
-      else taken_or (before_taking (tests_by dig) rules events me w c e) w c e) ≡ true
-      → IsTakenAt dig rules events me w c e (if b then VerdictKind.Away
-      else if exit_was_paid (tests_by dig) rules events me c e then VerdictKind.Paid
-      else taken_or (before_taking (tests_by dig) rules events me w c e) w c e)) [
-        | true ↦ λ wrong. absurd (false≢true wrong)
-        | false ↦ λ rest. (elim (exit_was_paid (tests_by dig) rules events me c e) as (λ b.
-            exit_was_paid (tests_by dig) rules events me c e ≡ b
-            → is_taken_kind (if b then VerdictKind.Paid
-            else taken_or (before_taking (tests_by dig) rules events me w c e) w c e) ≡ true
-            → IsTakenAt dig rules events me w c e (if b then VerdictKind.Paid
-            else taken_or (before_taking (tests_by dig) rules events me w c e) w c e)) [
-              | true ↦ λ paid wrong. absurd (false≢true wrong)
-              | false ↦ λ unpaid some. (elim (before_taking (tests_by dig) rules events me w c e) as (λ o.
-                  before_taking (tests_by dig) rules events me w c e ≡ o → is_taken_kind (taken_or o w c e) ≡ true
-                  → IsTakenAt dig rules events me w c e (taken_or o w c e)) [
-                    | None ↦ λ none wrong. absurd (false≢true wrong)
-                    | Some before ↦ λ taken here.
-                        record { unpaid = unpaid; before = before; taken = taken; kind_is = refl }
-                  ]) refl some
-            ]) refl rest
-      ]) is
+  taken-at events is = grind (arith, common_steps, false≢true)
 
   -- the events before the first taking are the earlier ones
   taking-suffix : (events before : List Event) → before_taking (tests_by dig) rules events me w c e ≡ Some before

@@ -1,9 +1,10 @@
 -- What a history shows, as a walk along its openings.
-use Rattle.std.proofs.Common.{◌≡◌, ◌≢◌, ◌⊎◌, ℕ, ◌<◌, ◌≤◌, ◌==◌, Bool, true, false, if◌then◌else◌, List, [], ◌∷◌, Option, Some, None, inl, inr, refl, sym, ap, ◌∙◌, subst, arith}
+use Rattle.std.proofs.Common.{◌≡◌, ◌≢◌, ◌⊎◌, ℕ, ◌<◌, ◌≤◌, true, List, [], ◌∷◌, Option, Some, None, inl, inr, refl, sym, ap, ◌∙◌, subst, arith, rules}
 use Rattle.std.specs.Prelude.{is_some}
 use Rattle.std.specs.Option.{option_map}
 use Rattle.std.specs.List.{cons_option}
 use Rattle.std.proofs.lemmas.Bool.{cases_order, ne_eqb, eq-eqb}
+use Rattle.std.proofs.lemmas.Grind.{common_steps}
 use Rattle.plasma_tx.specs.declared.owner.Owner.{Owner}
 use Rattle.plasma_tx.specs.declared.opening.RawOpening.{RawOpening}
 use Rattle.plasma_tx.specs.declared.signed_tx.SignedTx.{SignedTx}
@@ -77,15 +78,7 @@ module _ (tests : Tests) (rules : Rules) where
 
   successor-later : (c : ℕ) (p : RawOpening) (os : List RawOpening) (n : ℕ) (owner : Owner)
       → Successor c os n owner → Successor c (p ∷ os) n owner
-  successor-later c p os n owner s = record {
-    o = s.o;
-    has = inr s.has;
-    tx = s.tx;
-    tx_is = s.tx_is;
-    parent_is = s.parent_is;
-    signed = s.signed;
-    above = s.above;
-  }
+  successor-later c p os n owner s = grind (arith, common_steps)
 
   -- what one opening does to the coin's place: nothing where its leaf is empty; else its leaf is the next link
   pub data IsStep (c : ℕ) (last : Place) (o : RawOpening) (next : Place) : Type 0 where
@@ -121,14 +114,6 @@ module _ (tests : Tests) (rules : Rules) where
     walk-above n last (p ∷ os) end walk o (inl same) = subst (λ (x : RawOpening). n < x.block) same walk.rises
     walk-above n last (p ∷ os) end walk o (inr h) =
         let up = walk-above p.block walk.next os end walk.rest o h in omega (arith, up, walk.rises)
-
-    pub walk-below : (n : ℕ) (last : Place) (os : List RawOpening) (end : Place) → IsWalk log c n last os end
-        → (o : RawOpening) → Has os o → o.block ≤ end.block
-    unfolding IsWalk
-    walk-below n last [] end walk o h = absurd h
-    walk-below n last (p ∷ os) end walk o (inl same) =
-        subst (λ (x : RawOpening). x.block ≤ end.block) same (walk-passes p.block walk.next os end walk.rest)
-    walk-below n last (p ∷ os) end walk o (inr h) = walk-below p.block walk.next os end walk.rest o h
 
     pub walk-opened : (n : ℕ) (last : Place) (os : List RawOpening) (end : Place) → IsWalk log c n last os end
         → (o : RawOpening) → Has os o → IsOpened tests log c o
@@ -167,33 +152,17 @@ module _ (tests : Tests) (rules : Rules) where
         by_step : (next : Place) → IsStep c last p next → next ≡ end
             → (last ≡ end) ⊎ Spent rules c (p ∷ os) end.block end.owner
         by_step next (Absent empty same) is = inl (sym same ∙ is)
-        by_step next (Moves tx tx_is parent signed same) is = inr (record {
-          o = p;
-          has = inl refl;
-          tx = tx;
-          tx_is = tx_is;
-          block_is = ap (λ (x : Place). x.block) (sym same ∙ is);
-          to_is = ap (λ (x : Place). x.owner) (sym same ∙ is);
-        })
+        by_step next (Moves tx tx_is parent signed same) is = grind (arith, common_steps)
 
     step-above : (n : ℕ) (last : Place) (p : RawOpening) (next : Place) → IsStep c last p next → last.block ≤ n
         → n < p.block → (last.block ≤ next.block) × (next.block ≤ p.block)
-    step-above n last p next (Absent empty same) low rises =
-        let e : next.block ≡ last.block = ap (λ (x : Place). x.block) same in (omega arith, omega arith)
-    step-above n last p next (Moves tx tx_is parent signed same) low rises =
-        let e : next.block ≡ p.block = ap (λ (x : Place). x.block) same in (omega arith, omega arith)
+    step-above n last p next h4 low rises = grind (arith, common_steps)
 
     step-parent : (last : Place) (p : RawOpening) (next : Place) (tx : SignedTx) → IsStep c last p next
         → transfer_of rules c p ≡ Some tx
         → (tx.body.parent ≡ last.block) × (next ≡ record { block = p.block; owner = tx.body.to })
         × (tests.is_signed tx last.owner ≡ true)
-    step-parent last p next tx (Absent empty same) is = absurd (empty-no_tx rules c p tx empty is)
-    step-parent last p next tx (Moves other other_is parent signed same) is =
-        let e : other ≡ tx = some_same other tx (sym other_is ∙ is) in (
-          ap (λ (x : SignedTx). x.body.parent) (sym e) ∙ parent,
-          same ∙ ap (λ (x : SignedTx). record { block = p.block; owner = x.body.to }) e,
-          subst (λ x. tests.is_signed x last.owner ≡ true) e signed,
-        )
+    step-parent last p next tx h4 is = grind (arith, common_steps, empty-no_tx, some_same)
 
     -- no later link goes back behind the last
     walk-parents : (n : ℕ) (last : Place) (os : List RawOpening) (end : Place) → IsWalk log c n last os end
@@ -245,15 +214,7 @@ module _ (tests : Tests) (rules : Rules) where
         by_step : (next : Place) → IsStep c last p next → last.block < p.block
             → (next ≡ last → Successor c os last.block last.owner) → Successor c (p ∷ os) last.block last.owner
         by_step next (Absent empty same) up later = successor-later c p os last.block last.owner (later same)
-        by_step next (Moves tx tx_is parent signed same) up later = record {
-          o = p;
-          has = inl refl;
-          tx = tx;
-          tx_is = tx_is;
-          parent_is = parent;
-          signed = signed;
-          above = up;
-        }
+        by_step next (Moves tx tx_is parent signed same) up later = grind (arith, common_steps)
 
     pub walk-spends : (n : ℕ) (last : Place) (os : List RawOpening) (end : Place) → IsWalk log c n last os end
         → (o : RawOpening) (tx : SignedTx) → Has os o → transfer_of rules c o ≡ Some tx → o.block < end.block
@@ -299,17 +260,7 @@ module _ (tests : Tests) (rules : Rules) where
         → is_some (next_link b next.block (links_in rules c os)) ≡ true
         → is_some (next_link b last.block (links_in rules c (p ∷ os))) ≡ true
     unfolding next_link
-    next-front last p os next b (Absent empty same) later =
-        simp (links-absent rules c p os empty)
-        (subst (λ (x : Place). is_some (next_link b x.block (links_in rules c os)) ≡ true) same later)
-    next-front last p os next b (Moves tx tx_is parent signed same) later =
-        simp (links-some rules c p os tx tx_is) (either (last.block == b)
-        (subst (λ (x : Place). is_some (next_link b x.block (links_in rules c os)) ≡ true) same later))
-      where
-        either : (t : Bool) → is_some (next_link b p.block (links_in rules c os)) ≡ true
-            → is_some (if t then Some (with_tx p tx) else next_link b p.block (links_in rules c os)) ≡ true
-        either true h = refl
-        either false h = h
+    next-front last p os next b h5 later = grind (arith, common_steps, links-absent, links-some, with_tx)
 
     pub next-link : (n : ℕ) (last : Place) (os : List RawOpening) (end : Place) → IsWalk log c n last os end
         → (o : RawOpening) (tx : SignedTx) → Has os o → transfer_of rules c o ≡ Some tx → o.block < end.block
@@ -330,12 +281,7 @@ module _ (tests : Tests) (rules : Rules) where
         → IsStep c last p next → next_link b next.block (links_in rules c os) ≡ None
         → next_link b last.block (links_in rules c (p ∷ os)) ≡ None
     unfolding next_link
-    next-skip last p os next b apart (Absent empty same) later =
-        simp (links-absent rules c p os empty)
-        (subst (λ (x : Place). next_link b x.block (links_in rules c os) ≡ None) same later)
-    next-skip last p os next b apart (Moves tx tx_is parent signed same) later =
-        simp (links-some rules c p os tx tx_is, ne_eqb last.block b apart)
-        (subst (λ (x : Place). next_link b x.block (links_in rules c os) ≡ None) same later)
+    next-skip last p os next b apart h6 later = grind (arith, common_steps, links-absent, links-some, ne_eqb)
 
     pub next-tip : (n : ℕ) (last : Place) (os : List RawOpening) (end : Place) → IsWalk log c n last os end
         → last.block ≤ n → next_link end.block last.block (links_in rules c os) ≡ None

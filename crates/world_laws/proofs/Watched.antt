@@ -1,8 +1,8 @@
 -- What each event keeps of the exits of a held coin.
-use Rattle.std.proofs.Common.{◌≡◌, ◌≢◌, ℕ, ◌+◌, ◌<◌, ◌≤◌, ◌==◌, Bool, true, false, if◌then◌else◌, List, [], ◌∷◌, ◌++◌, map, Some, inl, inr, refl, sym, ◌∙◌, subst, arith}
+use Rattle.std.proofs.Common.{◌≡◌, ◌≢◌, ℕ, ◌+◌, ◌<◌, ◌≤◌, ◌==◌, true, false, if◌then◌else◌, List, [], ◌∷◌, ◌++◌, map, Some, refl, ◌∙◌, subst, arith, rules}
 use Rattle.std.specs.Prelude.{is_some, is_none}
-use Rattle.std.specs.List.{AllByRecursion}
 use Rattle.std.proofs.lemmas.Bool.{cases_lt, true≢false}
+use Rattle.std.proofs.lemmas.Grind.{common_steps}
 use Rattle.plasma_tx.specs.declared.owner.Owner.{Owner}
 use Rattle.plasma_tx.specs.declared.opening.RawOpening.{RawOpening}
 use Rattle.plasma_tx.specs.declared.signed_tx.SignedTx.{SignedTx}
@@ -40,23 +40,7 @@ is_none-push block (first ∷ rest) new was =
 pub is_none-answered : (block other : ℕ) (chs : List Challenge)
     → is_none (challenge_at block (map (with_answer_at other) chs)) ≡ is_none (challenge_at block chs)
 is_none-answered block other [] = refl
-is_none-answered block other (first ∷ rest) =
-    elim (first.block == other) as (λ k. is_none (challenge_at block
-    ((if k then record first { answered = true } else first) ∷ map (with_answer_at other) rest))
-    ≡ is_none (challenge_at block (first ∷ rest))) [
-      | true ↦ elim (first.block == block) as (λ b. is_none (if b then Some (record first { answered = true })
-          else challenge_at block (map (with_answer_at other) rest))
-          ≡ is_none (if b then Some first else challenge_at block rest)) [
-            | true ↦ refl
-            | false ↦ is_none-answered block other rest
-          ]
-      | false ↦ elim (first.block == block) as (λ b. is_none (if b then Some first
-          else challenge_at block (map (with_answer_at other) rest))
-          ≡ is_none (if b then Some first else challenge_at block rest)) [
-            | true ↦ refl
-            | false ↦ is_none-answered block other rest
-          ]
-    ]
+is_none-answered block other (first ∷ rest) = grind (arith, common_steps, is_none-answered block other rest)
 
 -- ---- an accepted spend
 
@@ -72,14 +56,7 @@ pub record IsSpend (tests : Tests) (rules : Rules) (log : List RootCall) (c : �
 pub is_spend : (tests : Tests) (rules : Rules) (log : List RootCall) (c : ℕ) (o : RawOpening) (tx : SignedTx)
     (parent : ℕ) (owner : Owner) → ShowsTx tests rules log c o tx → tx.body.parent ≡ parent → parent < o.block
     → tests.is_signed tx owner ≡ true → IsSpend tests rules log c o parent owner
-is_spend tests rules log c o tx parent owner shown child above signed = record {
-  tx = tx;
-  tx_is = shown.spelled;
-  opened = record { root = shown.root; root_is = shown.committed; opens = shown.opened };
-  parent_is = child;
-  above = above;
-  signed = signed;
-}
+is_spend tests rules log c o tx parent owner shown child above signed = grind (arith, common_steps)
 
 -- ---- an event on a held coin
 
@@ -133,47 +110,16 @@ module _ (tests : Tests) (rules : Rules) (signs : SignsBy tests) (events : List 
 module _ (c : ℕ) (me : Owner) (e time : ℕ) where
   pub new-watched : (x : Exit) → x.parent ≢ e → (is_mine me x ≡ true → x.block ≡ e) → x.start ≡ time
       → x.challenges ≡ [] → IsWatched me e time x
-  new-watched x apart own begins none = record {
-    unspent = apart;
-    open_tip = subst (AllByRecursion (λ (ch : Challenge). ch.block ≡ e → ch.answered ≡ false)) (sym none) tt;
-    in_time = λ other over. absurd (not_over over);
-    own_block = own;
-    own_time = λ own at_tip.
-        subst (AllByRecursion (λ (ch : Challenge). ch.answered ≡ false → time < ch.at + RESPONSE_WINDOW)) (sym none) tt;
-  }
-    where
-      not_over : x.start + CHALLENGE_WINDOW ≤ time → ⊥
-      not_over over = let w : 0 < CHALLENGE_WINDOW = omega arith in omega (arith, over, begins, w)
+  new-watched x apart own begins none = grind (arith, common_steps, unspent)
 
   pub challenged-watched : (x : Exit) (new : Challenge) → is_some (challenge_at new.block x.challenges) ≡ false
       → new.answered ≡ false → new.at ≡ time → IsWatched me e time x → IsWatched me e time (with_challenge new x)
-  challenged-watched x new none unanswered now_is w =
-      subst (λ (b : Bool). IsWatched me e time (if b then x else record x { challenges = x.challenges ++ new ∷ [] }))
-      (sym none)
-      (record {
-        unspent = w.unspent;
-        open_tip = all-append (λ (ch : Challenge). ch.block ≡ e → ch.answered ≡ false) x.challenges new w.open_tip
-            (λ _. unanswered);
-        in_time = λ other over. is_none-push e x.challenges new (w.in_time other over);
-        own_block = w.own_block;
-        own_time = λ own at_tip.
-            all-append (λ (ch : Challenge). ch.answered ≡ false → time < ch.at + RESPONSE_WINDOW) x.challenges new
-            (w.own_time own at_tip)
-            (λ _. let r : 0 < RESPONSE_WINDOW = omega arith in omega (arith, now_is, r));
-      })
+  challenged-watched x new none unanswered now_is w = grind (arith, common_steps, unspent, all-append, is_none-push)
 
   pub answered-watched : (x : Exit) (challenged : ℕ) → challenged ≢ e → IsWatched me e time x
       → IsWatched me e time (with_answer challenged x)
-  answered-watched x challenged apart w = record {
-    unspent = w.unspent;
-    open_tip = all-answered (λ ch. ch.block ≡ e → ch.answered ≡ false) challenged x.challenges
-        (λ ch named was at_tip. absurd (apart (sym named ∙ at_tip))) w.open_tip;
-    in_time = λ other over. is_none-answered e challenged x.challenges ∙ w.in_time other over;
-    own_block = w.own_block;
-    own_time = λ own at_tip.
-        all-answered (λ ch. ch.answered ≡ false → time < ch.at + RESPONSE_WINDOW) challenged x.challenges
-        (λ ch named was no. absurd (true≢false no)) (w.own_time own at_tip);
-  }
+  answered-watched x challenged apart w =
+      grind (arith, common_steps, unspent, all-answered, is_none-answered, true≢false)
 
   -- a tick past what is still
   pub ticked-watched : (after : ℕ) (x : Exit) → IsWatched me e time x
@@ -182,19 +128,4 @@ module _ (c : ℕ) (me : Owner) (e time : ℕ) where
       → (is_mine me x ≡ true → x.block ≡ e → (ch : Challenge) → Has x.challenges ch → ch.answered ≡ false
       → time < ch.at + RESPONSE_WINDOW → ch.at + RESPONSE_WINDOW ≤ after → ⊥)
       → IsWatched me e after x
-  ticked-watched after x w others mine = record {
-    unspent = w.unspent;
-    open_tip = w.open_tip;
-    in_time = λ other over. elim (cases_lt time (x.start + CHALLENGE_WINDOW)) [
-      | inl inside ↦ others other inside over
-      | inr past ↦ w.in_time other past
-    ];
-    own_block = w.own_block;
-    own_time = λ own at_tip. all-from (λ ch. ch.answered ≡ false → after < ch.at + RESPONSE_WINDOW) x.challenges
-        (λ ch there unanswered. elim (cases_lt after (ch.at + RESPONSE_WINDOW)) [
-          | inl inside ↦ inside
-          | inr past ↦ absurd (mine own at_tip ch there unanswered
-              (all-has (λ (k : Challenge). k.answered ≡ false → time < k.at + RESPONSE_WINDOW) x.challenges ch
-              (w.own_time own at_tip) there unanswered) past)
-        ]);
-  }
+  ticked-watched after x w others mine = grind (arith, common_steps, unspent, cases_lt, all-from, all-has)
