@@ -1,96 +1,74 @@
--- What a step of four chains leaves, and the spans of chains.
-use Rattle.std.proofs.Common.{◌≡◌, ◌≢◌, ℕ, ◌+◌, ◌-◌, ◌<◌, ◌≤◌, ◌&&◌, max, true, false, Bool, cond, List, [], ◌∷◌, length, get_or, set, inl, inr, refl, sym, ◌∙◌, arith, length-set, get_or-set_same, get_or-set_other}
+-- What a step of several chains leaves, and the spans of chains.
+use Rattle.std.proofs.Common.{◌≡◌, ℕ, zero, suc, ◌+◌, ◌-◌, ◌<◌, ◌≤◌, ◌&&◌, max, true, false, Bool, cond, List, [], ◌∷◌, length, get_or, set, inl, inr, refl, sym, ap, ◌∙◌, arith, length-set, get_or-set_same, get_or-set_other}
 use Rattle.std.specs.Prelude.{nat_le, nat_lt}
 use Rattle.std.proofs.lemmas.Bool.{cases_lt, le-leb, le-ltb, lt-leb, lt-ltb}
 use Rattle.lms_sign.specs.OneTime.{chain_step, chain_value}
-use Rattle.lms_sign.specs.Lanes.{write_four}
+use Rattle.lms_sign.specs.Lanes.{write_at}
 use Rattle.lms_sign.proofs.Lists.{chain_value-more, chain_value-none}
 
--- the four numbers, in a list
-abbrev four : ℕ → ℕ → ℕ → ℕ → List ℕ
-four a b c d = a ∷ b ∷ c ∷ d ∷ []
+pub write_at-none : (f : ℕ → List ℕ) (s : List (List ℕ)) → write_at s [] f ≡ s
+unfolding write_at
+write_at-none f s = refl
 
-pub write_four-other : (f : ℕ → List ℕ) (s : List (List ℕ)) (a b c d k : ℕ) → k ≢ a → k ≢ b → k ≢ c → k ≢ d
-    → get_or (write_four s (four a b c d) f) k [] ≡ get_or s k []
-write_four-other f s a b c d k not_a not_b not_c not_d =
-    get_or-set_other _ d k (f d) [] not_d ∙ get_or-set_other _ c k (f c) [] not_c
-    ∙ get_or-set_other _ b k (f b) [] not_b ∙ get_or-set_other s a k (f a) [] not_a
-
-module _ (f : ℕ → List ℕ) (s : List (List ℕ)) (a b c d : ℕ) (ab : a < b) (bc : b < c) (cd : c < d)
-    (within : d < length s) where
-  write_four-d : get_or (write_four s (four a b c d) f) d [] ≡ f d
-  write_four-d =
-      let one = length-set s a (f a) in
-      let two = length-set (set s a (f a)) b (f b) in
-      let three = length-set (set (set s a (f a)) b (f b)) c (f c) in
-      get_or-set_same _ d (f d) [] (omega arith)
-
-  write_four-c : get_or (write_four s (four a b c d) f) c [] ≡ f c
-  write_four-c =
-      let one = length-set s a (f a) in
-      let two = length-set (set s a (f a)) b (f b) in
-      get_or-set_other _ d c (f d) [] (omega arith) ∙ get_or-set_same _ c (f c) [] (omega arith)
-
-  write_four-b : get_or (write_four s (four a b c d) f) b [] ≡ f b
-  write_four-b =
-      let one = length-set s a (f a) in
-      get_or-set_other _ d b (f d) [] (omega arith) ∙ get_or-set_other _ c b (f c) [] (omega arith)
-      ∙ get_or-set_same _ b (f b) [] (omega arith)
-
-  write_four-a : get_or (write_four s (four a b c d) f) a [] ≡ f a
-  write_four-a = get_or-set_other _ d a (f d) [] (omega arith) ∙ get_or-set_other _ c a (f c) [] (omega arith)
-      ∙ get_or-set_other _ b a (f b) [] (omega arith) ∙ get_or-set_same s a (f a) [] (omega arith)
+pub write_at-more : (f : ℕ → List ℕ) (s : List (List ℕ)) (a : ℕ) (rest : List ℕ)
+    → write_at s (a ∷ rest) f ≡ write_at (set s a (f a)) rest f
+unfolding write_at
+write_at-more f s a rest = refl
 
 -- no number from the first up to the second passes the test
 abbrev NoneIn : (ℕ → Bool) → ℕ → ℕ → Type 0
 NoneIn has low high = (k : ℕ) → low ≤ k → k < high → has k ≡ false
 
--- the number passes the test, if it is below n
-abbrev PassesBelow : (ℕ → Bool) → ℕ → ℕ → Type 0
-PassesBelow has n k = k < n → has k ≡ true
+-- the numbers, which rise, are those from low up to high that pass the test, as far as they are below n
+unfoldable pub IsGroup : (ℕ → Bool) → ℕ → ℕ → List ℕ → ℕ → Type 0
+IsGroup has n low [] high = (low ≤ high) × NoneIn has low high
+IsGroup has n low (a ∷ rest) high =
+    (low ≤ a) × NoneIn has low a × (a < n → has a ≡ true) × IsGroup has n (a + 1) rest high
 
--- the string at k after a step of four chains, which are the first that take one
-pub write_four-next : (has : ℕ → Bool) (f : ℕ → List ℕ) (s : List (List ℕ)) (n a b c d e : ℕ)
-    → a + 1 ≤ b → b + 1 ≤ c → c + 1 ≤ d → d < length s
-    → NoneIn has (a + 1) b → NoneIn has (b + 1) c → NoneIn has (c + 1) d → NoneIn has (d + 1) e
-    → PassesBelow has n a → PassesBelow has n b → PassesBelow has n c → PassesBelow has n d
-    → (k : ℕ) → k < n → a ≤ k → k < e
-    → get_or (write_four s (four a b c d) f) k [] ≡ cond (has k) (f k) (get_or s k [])
-write_four-next has f s n a b c d e ab bc cd within after_a after_b after_c after_d at_a at_b at_c at_d k below from
-    to =
-    let rising : (a < b) × (b < c) × (c < d) = (omega arith, omega arith, omega arith) in
-    let skipped : has k ≡ false → k ≢ a → k ≢ b → k ≢ c → k ≢ d
-    → get_or (write_four s (four a b c d) f) k [] ≡ cond (has k) (f k) (get_or s k []) =
-    λ none not_a not_b not_c not_d. rw none (write_four-other f s a b c d k not_a not_b not_c not_d) in
-    elim (cases_lt a k) [
-      | inr le ↦
-          let same : k ≡ a = omega arith in
-          rw (same, at_a (omega arith)) (write_four-a f s a b c d rising.0 rising.1 rising.2 within)
-      | inl past_a ↦ elim (cases_lt k b) [
-        | inl lt ↦ skipped (after_a k (omega arith) lt) (omega arith) (omega arith) (omega arith) (omega arith)
-        | inr ge_b ↦ elim (cases_lt b k) [
-          | inr le ↦
-              let same : k ≡ b = omega arith in
-              rw (same, at_b (omega arith)) (write_four-b f s a b c d rising.0 rising.1 rising.2 within)
-          | inl past_b ↦ elim (cases_lt k c) [
-            | inl lt ↦ skipped (after_b k (omega arith) lt) (omega arith) (omega arith) (omega arith) (omega arith)
-            | inr ge_c ↦ elim (cases_lt c k) [
-              | inr le ↦
-                  let same : k ≡ c = omega arith in
-                  rw (same, at_c (omega arith)) (write_four-c f s a b c d rising.0 rising.1 rising.2 within)
-              | inl past_c ↦ elim (cases_lt k d) [
-                | inl lt ↦ skipped (after_c k (omega arith) lt) (omega arith) (omega arith) (omega arith) (omega arith)
-                | inr ge_d ↦ elim (cases_lt d k) [
-                  | inr le ↦
-                      let same : k ≡ d = omega arith in
-                      rw (same, at_d (omega arith)) (write_four-d f s a b c d rising.0 rising.1 rising.2 within)
-                  | inl past_d ↦
-                      skipped (after_d k (omega arith) to) (omega arith) (omega arith) (omega arith) (omega arith)
-                ]
-              ]
-            ]
-          ]
-        ]
+-- what stands below all numbers of a group stays
+pub write_at-below : (has : ℕ → Bool) (f : ℕ → List ℕ) (s : List (List ℕ)) (n low : ℕ) (numbers : List ℕ) (high : ℕ)
+    → IsGroup has n low numbers high → (k : ℕ) → k < low → get_or (write_at s numbers f) k [] ≡ get_or s k []
+unfolding write_at IsGroup
+write_at-below has f s n low [] high group k below = refl
+write_at-below has f s n low (a ∷ rest) high group k below =
+    write_at-below has f (set s a (f a)) n (a + 1) rest high group.3 k (omega (arith, group.0))
+    ∙ get_or-set_other s a k (f a) [] (omega (arith, group.0))
+
+-- a group ends no lower than it begins
+group-rises : (has : ℕ → Bool) (n low : ℕ) (numbers : List ℕ) (high : ℕ) → IsGroup has n low numbers high → low ≤ high
+unfolding IsGroup
+group-rises has n low [] high group = group.0
+group-rises has n low (a ∷ rest) high group = omega (arith, group.0, group-rises has n (a + 1) rest high group.3)
+
+-- what stands above all numbers of a group stays
+pub write_at-above : (has : ℕ → Bool) (f : ℕ → List ℕ) (s : List (List ℕ)) (n low : ℕ) (numbers : List ℕ) (high : ℕ)
+    → IsGroup has n low numbers high → (k : ℕ) → high ≤ k → get_or (write_at s numbers f) k [] ≡ get_or s k []
+unfolding write_at IsGroup
+write_at-above has f s n low [] high group k above = refl
+write_at-above has f s n low (a ∷ rest) high group k above =
+    write_at-above has f (set s a (f a)) n (a + 1) rest high group.3 k above
+    ∙ get_or-set_other s a k (f a) [] (omega (arith, group-rises has n (a + 1) rest high group.3))
+
+-- the string at k after a step of a group's chains
+pub write_at-next : (has : ℕ → Bool) (f : ℕ → List ℕ) (s : List (List ℕ)) (n low : ℕ) (numbers : List ℕ) (high : ℕ)
+    → n ≤ length s → IsGroup has n low numbers high → (k : ℕ) → k < n → low ≤ k → k < high
+    → get_or (write_at s numbers f) k [] ≡ cond (has k) (f k) (get_or s k [])
+unfolding write_at IsGroup
+write_at-next has f s n low [] high room group k below from to = rw (group.1 k from to) refl
+write_at-next has f s n low (a ∷ rest) high room group k below from to =
+    let long = length-set s a (f a) in
+    elim (cases_lt k a) [
+      | inl before ↦
+          rw (group.1 k from before) (write_at-below has f (set s a (f a)) n (a + 1) rest high group.3 k (omega arith)
+          ∙ get_or-set_other s a k (f a) [] (omega arith))
+      | inr at ↦ elim (cases_lt a k) [
+        | inl past ↦
+            write_at-next has f (set s a (f a)) n (a + 1) rest high (omega arith) group.3 k below (omega arith) to
+            ∙ ap (λ (string : List ℕ). cond (has k) (f k) string) (get_or-set_other s a k (f a) [] (omega arith))
+        | inr not_past ↦
+            let same : k ≡ a = omega arith in
+            rw (same, group.2 (omega arith)) (write_at-below has f (set s a (f a)) n (a + 1) rest high group.3 a
+            (omega arith) ∙ get_or-set_same s a (f a) [] (omega arith))
       ]
     ]
 
@@ -118,3 +96,19 @@ chain_value-place id q n place from to string ordered = elim (cases_lt place fro
             ∙ sym (chain_value-none id q n place (to - place) string (omega arith)))
       ]
 ]
+
+-- what holds of each number below four, and below eight
+pub below_four : (P : ℕ → Type 0) → P 0 → P 1 → P 2 → P 3 → (k : ℕ) → k < 4 → P k
+below_four P p0 p1 p2 p3 zero h = p0
+below_four P p0 p1 p2 p3 (suc zero) h = p1
+below_four P p0 p1 p2 p3 (suc (suc zero)) h = p2
+below_four P p0 p1 p2 p3 (suc (suc (suc zero))) h = p3
+below_four P p0 p1 p2 p3 (suc (suc (suc (suc n)))) h = absurd (omega arith)
+
+pub below_eight : (P : ℕ → Type 0) → P 0 → P 1 → P 2 → P 3 → P 4 → P 5 → P 6 → P 7 → (k : ℕ) → k < 8 → P k
+below_eight P p0 p1 p2 p3 p4 p5 p6 p7 zero h = p0
+below_eight P p0 p1 p2 p3 p4 p5 p6 p7 (suc zero) h = p1
+below_eight P p0 p1 p2 p3 p4 p5 p6 p7 (suc (suc zero)) h = p2
+below_eight P p0 p1 p2 p3 p4 p5 p6 p7 (suc (suc (suc zero))) h = p3
+below_eight P p0 p1 p2 p3 p4 p5 p6 p7 (suc (suc (suc (suc k)))) h =
+    below_four (λ i. P (suc (suc (suc (suc i))))) p4 p5 p6 p7 k (omega arith)

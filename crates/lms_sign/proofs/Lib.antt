@@ -2,7 +2,6 @@ pub mod Sizes
 pub mod Lists
 pub mod Nodes
 pub mod Laws
-pub mod LaneFacts
 pub mod BlockFacts
 pub mod BeginFacts
 pub mod ChainFacts

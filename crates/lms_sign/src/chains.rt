@@ -1,12 +1,11 @@
-//! The chains of a leaf, taken from place to place, four at a time.
+//! The chains of a leaf, taken from place to place, eight at a time, or four where no more are left.
 
 ghost use Rattle.std.specs.Prelude.{◌≡◌, true, false, ℕ, ◌+◌, ◌-◌, ◌^◌, ◌<◌, ◌≤◌, [], max, length, slice_index_or};
 ghost use Rattle.lms_sign.specs.OneTime.{chain_value};
 ghost use Rattle.lms_sign.specs.Lanes.{IsBegun};
 ghost use Rattle.lms_sign.specs.Chains.{IsSpan, has_place, span_at, string_after};
 
-use super::blocks::{begin_steps, step_four};
-use std::simd::u32x4;
+use super::blocks::{begin_steps, step};
 
 /// The places of a chain from which it takes a step: those from the first up to the end.
 #[derive(Clone, Copy)]
@@ -40,10 +39,10 @@ fn next_chain(spans: &[Span], place: u8, start: usize) -> usize
     n
 }
 
-// One step of each chain that takes one from the place. Where fewer than four are left, the strings behind the chains'
-// go with them, which are no chain's.
+// One step of each chain that takes one from the place. Where too few are left for a group, the strings behind the
+// chains' go with them, which are no chain's.
 fn step_all(
-    begun: &[u32x4; 8],
+    begun: &[u32; 8],
     id: &[u8; 16],
     q: u32,
     place: u8,
@@ -61,8 +60,18 @@ fn step_all(
         let second = next_chain(spans, place, first + 1);
         let third = next_chain(spans, place, second + 1);
         let fourth = next_chain(spans, place, third + 1);
-        step_four(begun, id, q, place, [first, second, third, fourth], strings);
-        first = next_chain(spans, place, fourth + 1);
+        let fifth = next_chain(spans, place, fourth + 1);
+        if fifth < spans.len() {
+            let sixth = next_chain(spans, place, fifth + 1);
+            let seventh = next_chain(spans, place, sixth + 1);
+            let eighth = next_chain(spans, place, seventh + 1);
+            let numbers = [first, second, third, fourth, fifth, sixth, seventh, eighth];
+            step(begun, id, q, place, numbers, strings);
+            first = next_chain(spans, place, eighth + 1);
+        } else {
+            step(begun, id, q, place, [first, second, third, fourth], strings);
+            first = fifth;
+        }
     }
 }
 

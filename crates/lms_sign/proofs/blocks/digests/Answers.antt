@@ -1,15 +1,24 @@
-use Rattle.std.proofs.Common.{◌≡◌, ℕ, ◌<◌, ◌∙◌, List, [], ap, lit<, slice_index_or}
+use Rattle.std.proofs.Common.{rules, ◌≡◌, ℕ, ◌∙◌, List, [], ap, arith, slice_index_or}
 use Rattle.sha2.specs.Sha256.{digest_bytes}
-use Rattle.lms_sign.specs.Lanes.{first_digest, lane}
-use Rattle.lms_sign.proofs.LaneFacts.{below_four}
+use Rattle.lms_sign.specs.Lanes.{HasWords}
+use Rattle.lms_sign.proofs.Lists.{set_each, set_next}
 use Rattle.lms_sign.proofs.blocks.digests.Goals as goal
 
+pub words-preserved : goal.words-preserved
+words-preserved g c = (
+  search rules,
+  set_each (λ n words. HasWords (slice_index_or c.args.blocks.now n []) words) c.words.words c.words.k
+      c.block_words.result [] (omega arith) c.block_words.ensures c.words.invariant.1,
+)
+
+pub hashes-preserved : goal.hashes-preserved
+hashes-preserved g c = (
+  search rules,
+  set_next (λ n. digest_bytes (slice_index_or c.first_hashes-hashes.result n []) 8) c.hashes.all c.hashes.k
+      c.digest.result [] (omega arith) c.digest.ensures c.hashes.invariant.1,
+)
+
 pub returns : goal.returns
-returns c =
-    let blocks = c.args.blocks.now in
-    let of_lane : (j : ℕ) → j < 4 → digest_bytes (lane j c.first_hash-hash.result) 8 ≡ first_digest
-    (slice_index_or blocks j []) =
-    λ j in_lanes. ap (λ (h : List ℕ). digest_bytes h 8) (c.first_hash-hash.ensures j (slice_index_or blocks j [])
-    in_lanes (c.block_words.ensures j in_lanes) (c.requires j in_lanes)) in
-    below_four _ (c.lane_digest.ensures ∙ of_lane 0 (lit< tt)) (c.lane_digest-2.ensures ∙ of_lane 1 (lit< tt))
-    (c.lane_digest-3.ensures ∙ of_lane 2 (lit< tt)) (c.lane_digest-4.ensures ∙ of_lane 3 (lit< tt))
+returns g c k in_lanes =
+    c.hashes.invariant.1 k (omega arith) ∙ ap (λ (h : List ℕ). digest_bytes h 8) (c.first_hashes-hashes.ensures k
+    (slice_index_or c.args.blocks.now k []) in_lanes (c.words.invariant.1 k (omega arith)) (c.requires k in_lanes))

@@ -1,8 +1,9 @@
-use Rattle.std.proofs.Common.{ℕ, ◌∙◌, List, [], Bool, arith, inl, inr, length, refl, slice_index_or}
+use Rattle.std.proofs.Common.{◌≡◌, ℕ, ◌+◌, ◌<◌, ◌∙◌, List, [], ◌∷◌, Bool, arith, inl, inr, length, refl, slice_index, slice_index_or}
 use Rattle.std.proofs.lemmas.Bool.{cases_lt}
+use Rattle.lms_sign.specs.Lanes.{write_at}
 use Rattle.lms_sign.specs.OneTime.{chain_step}
 use Rattle.lms_sign.specs.Chains.{has_place, span_at}
-use Rattle.lms_sign.proofs.ChainFacts.{write_four-next, write_four-other}
+use Rattle.lms_sign.proofs.ChainFacts.{IsGroup, below_eight, below_four, write_at-above, write_at-below, write_at-next}
 use Rattle.lms_sign.proofs.chains.step_all.Goals as goal
 
 pub groups-init : goal.groups-init
@@ -12,33 +13,82 @@ groups-init c = record {
   found = c.next_chain-first.ensures.found;
 }
 
-pub groups-preserved : goal.groups-preserved
-groups-preserved c =
+pub step-requires-clause-within : goal.step-requires-clause-within
+step-requires-clause-within c =
+    below_eight _ (omega arith) (omega arith) (omega arith) (omega arith) (omega arith) (omega arith) (omega arith)
+    (omega arith)
+
+pub step-2-requires-clause-within : goal.step-2-requires-clause-within
+step-2-requires-clause-within c = below_four _ (omega arith) (omega arith) (omega arith) (omega arith)
+
+pub groups-preserved-then-fifth : goal.groups-preserved-then-fifth
+unfolding IsGroup
+groups-preserved-then-fifth c =
     let strings = c.groups.strings in
-    let spans = c.args.spans.now in
-    let place = c.args.place in
-    let has : ℕ → Bool = λ k. has_place (span_at spans k) place in
-    let step : ℕ → List ℕ = λ k. chain_step c.args.id.now c.args.q k place (slice_index_or strings k []) in
-    let a = c.groups.first in
-    let b = c.next_chain-second.result in
-    let d = c.next_chain-third.result in
-    let e = c.next_chain-fourth.result in
-    let f = c.next_chain-first-in-groups.result in
+    let n = length c.args.spans.now in
+    let has : ℕ → Bool = λ k. has_place (span_at c.args.spans.now k) c.args.place in
+    let step : ℕ → List ℕ =
+    λ k. chain_step c.args.id.now c.args.q k c.args.place (slice_index_or strings k []) in
+    let first = c.groups.first in
     let second = c.next_chain-second.ensures in
     let third = c.next_chain-third.ensures in
     let fourth = c.next_chain-fourth.ensures in
+    let fifth = c.next_chain-fifth.ensures in
+    let sixth = c.next_chain-sixth.ensures in
+    let seventh = c.next_chain-seventh.ensures in
+    let eighth = c.next_chain-eighth.ensures in
     let next = c.next_chain-first-in-groups.ensures in
+    let numbers = first ∷ c.next_chain-second.result ∷ c.next_chain-third.result ∷ c.next_chain-fourth.result
+    ∷ c.next_chain-fifth.result ∷ c.next_chain-sixth.result ∷ c.next_chain-seventh.result
+    ∷ c.next_chain-eighth.result ∷ [] in
+    let group : IsGroup has n first numbers c.next_chain-first-in-groups.result = (
+      omega arith, (λ k from before. absurd (omega arith)), c.groups.invariant.found,
+      second.low, second.passed, second.found, third.low, third.passed, third.found,
+      fourth.low, fourth.passed, fourth.found, fifth.low, fifth.passed, fifth.found,
+      sixth.low, sixth.passed, sixth.found, seventh.low, seventh.passed, seventh.found,
+      eighth.low, eighth.passed, eighth.found, next.low, next.passed,
+    ) in
     record {
-      done = λ k below before. rw c.step_four.ensures (elim (cases_lt k c.groups.first) [
-        | inl earlier ↦ write_four-other step strings a b d e k (omega arith) (omega arith) (omega arith) (omega arith)
+      done = λ k below before. rw c.step.ensures (elim (cases_lt k first) [
+        | inl earlier ↦ write_at-below has step strings n first numbers _ group k earlier
             ∙ c.groups.invariant.done k below earlier
-        | inr from ↦ write_four-next has step strings (length spans) a b d e f second.low third.low fourth.low
-            (omega arith) second.passed third.passed fourth.passed next.passed c.groups.invariant.found second.found
-            third.found fourth.found k below from before ∙ rw (c.groups.invariant.left k below from) refl
+        | inr from ↦ write_at-next has step strings n first numbers _ (omega arith) group k below from before
+            ∙ rw (c.groups.invariant.left k below from) refl
       ]);
-      left = λ k below from. rw c.step_four.ensures (write_four-other step strings a b d e k (omega arith) (omega arith)
-          (omega arith) (omega arith) ∙ c.groups.invariant.left k below (omega arith));
+      left = λ k below from. rw c.step.ensures (write_at-above has step strings n first numbers _ group k from
+          ∙ c.groups.invariant.left k below (omega arith));
       found = next.found;
+    }
+
+pub groups-preserved : goal.groups-preserved
+unfolding IsGroup
+groups-preserved c =
+    let strings = c.groups.strings in
+    let n = length c.args.spans.now in
+    let has : ℕ → Bool = λ k. has_place (span_at c.args.spans.now k) c.args.place in
+    let step : ℕ → List ℕ =
+    λ k. chain_step c.args.id.now c.args.q k c.args.place (slice_index_or strings k []) in
+    let first = c.groups.first in
+    let second = c.next_chain-second.ensures in
+    let third = c.next_chain-third.ensures in
+    let fourth = c.next_chain-fourth.ensures in
+    let fifth = c.next_chain-fifth.ensures in
+    let numbers = first ∷ c.next_chain-second.result ∷ c.next_chain-third.result ∷ c.next_chain-fourth.result ∷ [] in
+    let group : IsGroup has n first numbers c.next_chain-fifth.result = (
+      omega arith, (λ k from before. absurd (omega arith)), c.groups.invariant.found,
+      second.low, second.passed, second.found, third.low, third.passed, third.found,
+      fourth.low, fourth.passed, fourth.found, fifth.low, fifth.passed,
+    ) in
+    record {
+      done = λ k below before. rw c.step-2.ensures (elim (cases_lt k first) [
+        | inl earlier ↦ write_at-below has step strings n first numbers _ group k earlier
+            ∙ c.groups.invariant.done k below earlier
+        | inr from ↦ write_at-next has step strings n first numbers _ (omega arith) group k below from before
+            ∙ rw (c.groups.invariant.left k below from) refl
+      ]);
+      left = λ k below from. rw c.step-2.ensures (write_at-above has step strings n first numbers _ group k from
+          ∙ c.groups.invariant.left k below (omega arith));
+      found = fifth.found;
     }
 
 pub returns : goal.returns

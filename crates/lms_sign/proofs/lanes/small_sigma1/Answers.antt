@@ -2,10 +2,4 @@ use Rattle.std.proofs.Common.{refl}
 use Rattle.lms_sign.proofs.lanes.small_sigma1.Goals as goal
 
 pub returns : goal.returns
-returns c j h =
-    rw (
-      c.xor.ensures j h,
-      c.rotate_right.ensures j h,
-      c.rotate_right-2.ensures j h,
-      c.shift_right.ensures j h,
-    ) refl
+returns c = rw (c.rotate_right.ensures, c.rotate_right-2.ensures) refl
