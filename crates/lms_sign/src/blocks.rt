@@ -98,6 +98,7 @@ pub(crate) fn step<const LANES: usize>(
     numbers: [usize; LANES],
     strings: &mut [[u8; 32]],
 )
+    requires few { LANES ≤ 8 }
     requires begun { IsBegun id.now q begun.now }
     requires small { length strings.old ≤ 2 ^ 16 }
     requires within { (k : ℕ) → k < LANES → slice_index numbers k < length strings.old }

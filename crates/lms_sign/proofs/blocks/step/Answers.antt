@@ -18,7 +18,8 @@ messages-preserved g c =
     )
 
 pub digests-ends-requires : goal.digests-ends-requires
-digests-ends-requires g c k in_lanes = c.requires.begun _ (c.messages.invariant.1 k (omega arith)).1
+digests-ends-requires g c =
+    (omega arith, (omega arith, λ k in_lanes. c.requires.begun _ (c.messages.invariant.1 k (omega arith)).1))
 
 pub strings-init : goal.strings-init
 strings-init g c = (refl, refl)
