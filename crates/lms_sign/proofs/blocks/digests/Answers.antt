@@ -1,4 +1,4 @@
-use Rattle.std.proofs.Common.{rules, ◌≡◌, ℕ, ◌∙◌, List, [], ap, arith, slice_index_or}
+use Rattle.std.proofs.Common.{rules, ℕ, ◌∙◌, List, [], ap, arith, slice_index_or}
 use Rattle.sha2.specs.Sha256.{digest_bytes}
 use Rattle.lms_sign.specs.Lanes.{HasWords}
 use Rattle.lms_sign.proofs.Lists.{set_each, set_next}

@@ -1,4 +1,4 @@
-use Rattle.std.proofs.Common.{◌≡◌, ℕ, ◌<◌, ◌≤◌, ◌∙◌, List, [], ◌∷◌, Bool, arith, inl, inr, length, refl, slice_index_or}
+use Rattle.std.proofs.Common.{ℕ, ◌<◌, ◌≤◌, ◌∙◌, List, [], ◌∷◌, Bool, arith, inl, inr, length, refl, slice_index_or}
 use Rattle.std.proofs.lemmas.Bool.{cases_lt}
 use Rattle.lms_sign.specs.OneTime.{chain_step}
 use Rattle.lms_sign.specs.Chains.{has_place, span_at}
@@ -57,12 +57,49 @@ groups-preserved-then-fifth-spans c =
     let seventh = c.next_chain-seventh.ensures in
     let eighth = c.next_chain-eighth.ensures in
     let next = c.next_chain-first-then-fifth-spans.ensures in
-    let numbers = first ∷ c.next_chain-second.result ∷ c.next_chain-third.result ∷ c.next_chain-fourth.result ∷ c.next_chain-fifth.result ∷ c.next_chain-sixth.result ∷ c.next_chain-seventh.result ∷ c.next_chain-eighth.result ∷ [] in
+    let numbers = first ∷ c.next_chain-second.result ∷ c.next_chain-third.result ∷ c.next_chain-fourth.result
+    ∷ c.next_chain-fifth.result ∷ c.next_chain-sixth.result ∷ c.next_chain-seventh.result
+    ∷ c.next_chain-eighth.result ∷ [] in
     let group : IsGroup has n first numbers c.next_chain-first-then-fifth-spans.result = (
       omega arith,
       λ k from before. absurd (omega arith),
       c.groups.invariant.found,
-      (second.low, second.passed, second.found, (third.low, third.passed, third.found, (fourth.low, fourth.passed, fourth.found, (fifth.low, fifth.passed, fifth.found, (sixth.low, sixth.passed, sixth.found, (seventh.low, seventh.passed, seventh.found, (eighth.low, eighth.passed, eighth.found, (next.low, next.passed)))))))),
+      (
+        second.low,
+        second.passed,
+        second.found,
+        (
+          third.low,
+          third.passed,
+          third.found,
+          (
+            fourth.low,
+            fourth.passed,
+            fourth.found,
+            (
+              fifth.low,
+              fifth.passed,
+              fifth.found,
+              (
+                sixth.low,
+                sixth.passed,
+                sixth.found,
+                (
+                  seventh.low,
+                  seventh.passed,
+                  seventh.found,
+                  (
+                    eighth.low,
+                    eighth.passed,
+                    eighth.found,
+                    (next.low, next.passed),
+                  ),
+                ),
+              ),
+            ),
+          ),
+        ),
+      ),
     ) in
     record {
       done = λ k below before. rw c.step.ensures (elim (cases_lt k first) [
@@ -94,7 +131,22 @@ groups-preserved c =
       omega arith,
       λ k from before. absurd (omega arith),
       c.groups.invariant.found,
-      (second.low, second.passed, second.found, (third.low, third.passed, third.found, (fourth.low, fourth.passed, fourth.found, (next.low, next.passed)))),
+      (
+        second.low,
+        second.passed,
+        second.found,
+        (
+          third.low,
+          third.passed,
+          third.found,
+          (
+            fourth.low,
+            fourth.passed,
+            fourth.found,
+            (next.low, next.passed),
+          ),
+        ),
+      ),
     ) in
     record {
       done = λ k below before. rw c.step-else-fifth-spans.ensures (elim (cases_lt k first) [
@@ -103,8 +155,8 @@ groups-preserved c =
         | inr from ↦ write_at-next has step strings n first numbers _ (omega arith) group k below from before
             ∙ rw (c.groups.invariant.left k below from) refl
       ]);
-      left = λ k below from. rw c.step-else-fifth-spans.ensures (write_at-above has step strings n first numbers _ group k from
-          ∙ c.groups.invariant.left k below (omega arith));
+      left = λ k below from. rw c.step-else-fifth-spans.ensures (write_at-above has step strings n first numbers _ group
+          k from ∙ c.groups.invariant.left k below (omega arith));
       found = next.found;
     }
 
