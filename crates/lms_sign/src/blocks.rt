@@ -105,12 +105,12 @@ pub(crate) fn step<const LANES: usize>(
     ensures { strings.new
         ≡ write_at strings.old numbers.entry (λ n. chain_step id.now q n j (slice_index_or strings.old n [])) }
 {
-    let mut blocks = [[0; 64]; LANES];
+    let mut padded = [[0; 64]; LANES];
     'messages: for k in 0..LANES {
         let n = numbers[k];
-        blocks[k] = chain_block(id, q, n as u16, j, &strings[n]);
+        padded[k] = chain_block(id, q, n as u16, j, &strings[n]);
     }
-    let ends = digests(begun, &blocks);
+    let ends = digests(begun, &padded);
     'strings: for k in 0..LANES {
         strings[numbers[k]] = ends[k];
     }

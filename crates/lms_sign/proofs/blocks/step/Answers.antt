@@ -13,7 +13,7 @@ messages-preserved g c =
       search rules,
       set_each (λ n block. (first_digest block ≡ chain_step c.args.id.now c.args.q (slice_index c.args.numbers n)
           c.args.j (slice_index_or strings (slice_index c.args.numbers n) []))
-          × (take 20 block ≡ c.args.id.now ++ u32str c.args.q)) c.messages.blocks c.messages.k c.chain_block.result []
+          × (take 20 block ≡ c.args.id.now ++ u32str c.args.q)) c.messages.padded c.messages.k c.chain_block.result []
           (omega arith) (c.chain_block.ensures.digest, c.chain_block.ensures.begins) c.messages.invariant.1,
     )
 

@@ -5,10 +5,10 @@ use Rattle.lms_sign.specs.OneTime.{chain_step}
 use Rattle.lms_sign.proofs.blocks.step.Given as goal
 
 abbrev pub invariant-messages : goal.invariant-messages
-invariant-messages g l = (length l.blocks ≡ g.row.LANES) × ((n : ℕ) → n < l.k
-    → (first_digest (slice_index_or l.blocks n []) ≡ chain_step l.id l.q (slice_index l.numbers n) l.j
+invariant-messages g l = (length l.padded ≡ g.row.LANES) × ((n : ℕ) → n < l.k
+    → (first_digest (slice_index_or l.padded n []) ≡ chain_step l.id l.q (slice_index l.numbers n) l.j
     (slice_index_or l.strings (slice_index l.numbers n) []))
-    × (take 20 (slice_index_or l.blocks n []) ≡ l.id ++ u32str l.q))
+    × (take 20 (slice_index_or l.padded n []) ≡ l.id ++ u32str l.q))
 
 abbrev pub invariant-strings : goal.invariant-strings
 invariant-strings g l = (length l.strings ≡ length l.initial.strings)
