@@ -212,6 +212,11 @@ impl Disk for MemDisk {
         self.unsynced.clear();
         self.starts.clear();
         self.replaced.clear();
+        // Of many disks most wait for no call, and room for the four calls of a record takes 128 bytes.
+        if self.log.room_calls() == 0 {
+            self.unsynced = Vec::new(self.alloc);
+            self.starts = Vec::new(self.alloc);
+        }
         Ok(())
     }
 
