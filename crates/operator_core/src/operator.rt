@@ -17,7 +17,7 @@ ghost use Rattle.operator_rules.specs.Commands.{forest_in, offer_effect, lay_eff
 use super::offering::offer_of;
 use super::pool::Pool;
 use super::rebuild::{long_record, read_records};
-use super::records::{Who, laid_record, offered_record, sealed_record};
+use super::records::{Who, laid_record, offered_record, same_offer, sealed_record};
 use super::role::OperatorRole;
 use super::showing::{bundle_between, bundle_of, opening_at};
 use super::trees::Trees;
@@ -27,10 +27,13 @@ use crash_disk::Disk;
 use gate_journal::{JournalRefusal, Returned};
 use node_journal::{Notes, Stop};
 use operator_rules::{LayRefusal, MOST_LAID, OfferRefusal, ProveRefusal, SealRefusal, Sealed};
-use plasma_base::{Bytes, Hash32, Sha};
+use plasma_base::{Bytes, Hash32, NoMemory, Sha};
 use plasma_tx::{Body, RawOpening, RootCall, RootLog};
 use std::alloc::Global;
 use std::marker::Model;
+
+// How many of the last records are looked at for one that comes again.
+const LOOKED_AT: usize = 8;
 
 // What a stop is for an offer, for a lay, and for a seal.
 fn offer_refusal(stop: Stop) -> OfferRefusal
@@ -329,8 +332,20 @@ impl<D: Disk, H: Hash32 + Copy> Operator<D, H> {
         if self.notes.is_closed() {
             return Err(Stop::Closed);
         }
-        let body = offered_record(self.alloc, bytes)?;
+        let body = self.offered_body(bytes)?;
         self.add_put(coin, bytes, body)
+    }
+
+    // The record of an offered transfer. One that was taken out and comes again lies in memory once, where its record
+    // is among the last.
+    fn offered_body(&self, bytes: &[u8]) -> Result<Bytes, NoMemory>
+        ensures { IfOk result (λ text. text ≡ note_text (Offered bytes.now)) }
+    {
+        let records = self.notes.records();
+        match same_offer(&records[records.len().saturating_sub(LOOKED_AT)..], bytes) {
+            Some(body) => body.copy(),
+            None => offered_record(self.alloc, bytes),
+        }
     }
 
     /// Lays bytes at a coin in place of its leaf in the pool; empty bytes take it out. The note is durable at

@@ -1,4 +1,4 @@
-ghost use Rattle.std.specs.Prelude.{◌≡◌, ◌≤◌, ◌<◌, ◌+◌, [], length, slice_range, IfOk, option_map, Ok};
+ghost use Rattle.std.specs.Prelude.{◌≡◌, ◌≤◌, ◌<◌, ◌+◌, [], true, length, slice_range, IfOk, IfSome, option_map, Ok};
 ghost use Rattle.gate_journal.specs.Image.{most};
 ghost use Rattle.plasma_tx.specs.Spelling.{number_at};
 ghost use Rattle.operator_rules.specs.Records.{Laid, Sealed, Offered, identity_text, identity_in, identity_of, note_text, note_in, tag_in};
@@ -136,6 +136,29 @@ pub fn offered_record(alloc: Global, bytes: &[u8]) -> Result<Bytes, NoMemory>
     text.push(34)?;
     text.extend_from_slice(bytes)?;
     Ok(Bytes::from_vec(text))
+}
+
+// Whether it is the record of an offer of these bytes.
+#[tactic(auto, unfolding(operator_rules::specs::Records::note_text))]
+fn is_offered(body: &[u8], bytes: &[u8]) -> bool
+    ensures { result ≡ true → body.now ≡ note_text (Offered bytes.now) }
+{
+    match body.split_first() {
+        Some((mark, rest)) => *mark == 34 && rest == bytes,
+        None => false,
+    }
+}
+
+/// The record of an offer of these bytes, lent, where one of these is it.
+pub fn same_offer<'a>(bodies: &'a [Bytes], bytes: &[u8]) -> Option<&'a Bytes>
+    ensures { IfSome result (λ body. body.now ≡ note_text (Offered bytes.now)) }
+{
+    for body in bodies {
+        if is_offered(body.as_slice(), bytes) {
+            return Some(body);
+        }
+    }
+    None
 }
 
 /// The record of bytes that were laid at a coin.
