@@ -1,7 +1,8 @@
 -- Bonds come back.
-use Rattle.std.proofs.Common.{◌≡◌, ℕ, ◌≤◌, ◌==◌, not, Bool, true, false, if◌then◌else◌, List, [], ◌∷◌, Option, Some, None, inl, inr, refl, sym, ap, ◌∙◌, subst, arith}
+use Rattle.std.proofs.Common.{◌≡◌, ℕ, ◌≤◌, ◌==◌, not, true, false, List, [], ◌∷◌, Some, inl, inr, refl, sym, ◌∙◌, subst, arith, rules}
 use Rattle.std.specs.List.{list_all}
 use Rattle.std.proofs.lemmas.Bool.{eqb-true, eq-eqb, and_parts, not_from_false, true≢false, false≢true}
+use Rattle.std.proofs.lemmas.Grind.{common_steps}
 use Rattle.plasma_tx.specs.declared.rules.TheConstants.{CHALLENGE_BOND}
 use Rattle.plasma_tx.specs.declared.opening.RawOpening.{RawOpening}
 use Rattle.plasma_tx.specs.declared.call.RootCall.{RootCall}
@@ -10,8 +11,8 @@ use Rattle.plasma_tx.specs.declared.answer.Answer.{Answer}
 use Rattle.plasma_tx.specs.declared.answer.Answer.TheVariants.{Cancelled, Paid}
 use Rattle.plasma_tx.specs.Laws.{is_end}
 use Rattle.plasma_tx.specs.Views.{Challenge, Exit, exits, exit_at, has_no_open_challenge, is_withdrawn}
-use Rattle.plasma_tx.specs.Shown.{Tests, Rules, tests_by, rules_of, shown_tx}
-use Rattle.plasma_tx.specs.Table.{Cause, decided, after_causes, between_causes, where_exit, answer_to}
+use Rattle.plasma_tx.specs.Shown.{Tests, Rules, tests_by, rules_of}
+use Rattle.plasma_tx.specs.Table.{Cause, decided, answer_to}
 use Rattle.plasma_tx.specs.RuleLaws.{is_paid}
 use Rattle.plasma_tx.specs.Money.{open_challenges, challenge_bonds, share_of}
 use Rattle.plasma_tx.proofs.Ends.{paid_exactly}
@@ -32,11 +33,7 @@ own-bond : (challenges : List Challenge) (challenge : Challenge) → Has challen
     → CHALLENGE_BOND ≤ share_of challenge.by (challenge_bonds challenges)
 unfolding share_of
 own-bond [] challenge there = absurd there
-own-bond (first ∷ rest) challenge (inl is) =
-    let mine : (if first.by == challenge.by then CHALLENGE_BOND else 0) ≡ CHALLENGE_BOND =
-    ap (λ b. if b then CHALLENGE_BOND else 0)
-    (eq-eqb first.by challenge.by (ap (λ (ch : Challenge). ch.by) is)) in
-    omega (arith, mine)
+own-bond (first ∷ rest) challenge (inl is) = grind (arith, common_steps, eq-eqb)
 own-bond (first ∷ rest) challenge (inr there) = omega (arith, own-bond rest challenge there)
 
 -- what isn't Paid doesn't pay
@@ -47,32 +44,17 @@ unpaid-from answer never = refl
 -- nor does a call that cancels
 cancel-unpaid : (causes : List Cause) → is_paid (decided causes Cancelled) ≡ false
 cancel-unpaid [] = refl
-cancel-unpaid (cause ∷ causes) = by_cause cause.0 (cancel-unpaid causes)
-  where
-    by_cause : (b : Bool) → is_paid (decided causes Cancelled) ≡ false
-        → is_paid (if b then Answer.Refused cause.1 else decided causes Cancelled) ≡ false
-    by_cause true rest = refl
-    by_cause false rest = rest
+cancel-unpaid (cause ∷ causes) = grind (arith, common_steps, cancel-unpaid causes)
 
 after-unpaid : (tests : Tests) (rules : Rules) (log : List RootCall) (account c f : ℕ) (spend : RawOpening)
     → is_paid (answer_to tests rules log (After account c f spend)) ≡ false
 unfolding answer_to
-after-unpaid tests rules log account c f spend = by_exit (exit_at log c f)
-  where
-    by_exit : (o : Option Exit) → is_paid (where_exit o (λ exit. decided
-        (after_causes tests log exit spend.block (shown_tx tests rules log c spend)) Cancelled)) ≡ false
-    by_exit None = refl
-    by_exit (Some exit) = cancel-unpaid (after_causes tests log exit spend.block (shown_tx tests rules log c spend))
+after-unpaid tests rules log account c f spend = grind (arith, common_steps, cancel-unpaid)
 
 between-unpaid : (tests : Tests) (rules : Rules) (log : List RootCall) (account c f : ℕ) (spend : RawOpening)
     → is_paid (answer_to tests rules log (Between account c f spend)) ≡ false
 unfolding answer_to
-between-unpaid tests rules log account c f spend = by_exit (exit_at log c f)
-  where
-    by_exit : (o : Option Exit) → is_paid (where_exit o (λ exit. decided
-        (between_causes tests log exit spend.block (shown_tx tests rules log c spend)) Cancelled)) ≡ false
-    by_exit None = refl
-    by_exit (Some exit) = cancel-unpaid (between_causes tests log exit spend.block (shown_tx tests rules log c spend))
+between-unpaid tests rules log account c f spend = grind (arith, common_steps, cancel-unpaid)
 
 -- an exit with an open challenge isn't paid
 end-unpaid : (tests : Tests) (rules : Rules) (log : List RootCall) (call : RootCall) (c block : ℕ) (exit : Exit)
@@ -122,9 +104,7 @@ run_bonds_come_back dig lines run world later events call w c e block exit chall
     (legal-to dig lines run world later (Joins call ∷ events) is split)
 
 needs-none : (log : List RootCall) (call : RootCall) → cancels call ≡ true → lacks_bond log call ≡ false
-needs-none log (After account c f spend) is = refl
-needs-none log (Between account c f spend) is = refl
-needs-none log call is = absurd (false≢true is)
+needs-none log call is = grind (arith, common_steps, false≢true)
 
 pub cancels_need_no_money : LegalCancelsNeedNoMoney
 cancels_need_no_money dig rules events n call digest legal offered is whole =

@@ -1,10 +1,11 @@
 -- The worked lists up to the stranger's exits are legal, and show neither a clash nor a forgery.
-use Rattle.std.proofs.Common.{◌≡◌, ℕ, zero, suc, ◌+◌, ◌-◌, ◌^◌, ◌<◌, ◌==◌, ◌&&◌, ◌||◌, Bool, true, false, if◌then◌else◌, nat_lt, List, [], ◌∷◌, ◌++◌, Some, None, inl, inr, refl, sym, ap, ◌∙◌, subst, arith}
+use Rattle.std.proofs.Common.{◌≡◌, ℕ, zero, suc, ◌+◌, ◌-◌, ◌^◌, ◌<◌, ◌==◌, ◌&&◌, Bool, true, false, if◌then◌else◌, nat_lt, List, [], ◌∷◌, ◌++◌, Some, None, inr, refl, sym, ap, ◌∙◌, subst, arith}
 use Rattle.std.specs.Prelude.{replicate, length, slice_index_or, is_some, not}
 use Rattle.std.specs.List.{AllByRecursion, list_any}
 use Rattle.std.specs.Option.{option_map}
 use Rattle.std.proofs.lemmas.Bool.{cases_Bool, ltb-true, and_parts, or_parts, eq-eqb, true≢false}
 use Rattle.std.proofs.lemmas.List.Elements.{All-from_recursion}
+use Rattle.std.proofs.lemmas.Grind.{common_steps}
 use Rattle.lms_sign.specs.Types.{u32_at}
 use Rattle.sparse_merkle.specs.MaskedPath.{proof_path}
 use Rattle.sparse_merkle.specs.Opening.{hashed_strings}
@@ -39,16 +40,7 @@ use Rattle.money_laws.proofs.Taken.{start-taken}
 -- ---- the digest
 
 byte-small : (n : ℕ) → byte n < 256
-byte-small n =
-    elim (cases_Bool (nat_lt n 256)) [
-      | inl is ↦
-          let low = ltb-true n 256 is in
-          let same : byte n ≡ n = ap (λ b. if b then n else 0) is in
-          omega (arith, low, same)
-      | inr isnt ↦
-          let same : byte n ≡ 0 = ap (λ b. if b then n else 0) isnt in
-          omega (arith, same)
-    ]
+byte-small n = grind (arith, common_steps, cases_Bool, ltb-true)
 
 zeros : (n : ℕ) → AllByRecursion (λ (byte : ℕ). byte < 256) (replicate n 0)
 zeros zero = tt
@@ -88,22 +80,12 @@ body-of coin from to small low owner =
 pub unsigned-worked : (coin from : ℕ) (to : Owner) → coin < 2 ^ 64 → from < 2 ^ 64 → IsOwner to
     → IsWorked (unsigned (transfer coin from to))
 unfolding unsigned
-unsigned-worked coin from to small low owner = record {
-  is_body = body-of coin from to small low owner;
-  tagged = refl;
-  endless = refl;
-  small = omega arith;
-}
+unsigned-worked coin from to small low owner = grind (arith, common_steps, body-of)
 
 pub signed-worked : (coin from : ℕ) (to : Owner) → coin < 2 ^ 64 → from < 2 ^ 64 → IsOwner to
     → IsWorked (signed (transfer coin from to))
 unfolding signed
-signed-worked coin from to small low owner = record {
-  is_body = body-of coin from to small low owner;
-  tagged = refl;
-  endless = refl;
-  small = omega (arith, signature_long (transfer coin from to));
-}
+signed-worked coin from to small low owner = grind (arith, common_steps, body-of, signature_long)
 
 pub planted-worked : (coin : ℕ) → coin < 2 ^ 64 → IsWorked (planted coin)
 planted-worked coin small = unsigned-worked coin 200 stranger small (omega arith) stranger-owner
@@ -131,11 +113,7 @@ began-mine left w owner is = mine-by (1 == w) owner is
 pub legal-call : (events : List Event) (call : RootCall) → IsMine events
     → is_accepted (answer_to tests rules (log_of events) call) ≡ true → starts_by 21 call ≡ false
     → LegalCall tests rules events call
-legal-call events call mine is other = record {
-  accepted = is;
-  offered = λ w owner of starts.
-      absurd (true≢false (sym starts ∙ ap (λ n. starts_by n call) (mine w owner of) ∙ other));
-}
+legal-call events call mine is other = grind (arith, common_steps, true≢false)
 
 -- ---- the beginning
 
@@ -181,16 +159,7 @@ over-mine (call ∷ calls) w owner is = over-mine calls w owner is
 
 declared : IsLegal tests rules (Declares 1 me ∷ [])
 unfolding IsLegal wallet_owner log_of
-declared = (
-  record {
-    new = refl;
-    unused = refl;
-    no_deposit = refl;
-    no_start = refl;
-    own_account = λ v other is. absurd (none_some other is);
-  },
-  tt,
-)
+declared = grind (arith, common_steps, none_some)
 
 pub over-legal : (calls : List RootCall) → list_any (starts_by 21) calls ≡ false → are_taken calls ≡ true
     → IsLegal tests rules (over calls)
@@ -257,10 +226,7 @@ forges-not bodies block tx worked not_mine =
 -- neither the planted transfer nor the stranger's is a forgery of the wallet's
 pub attacked-honest : (left : ℕ) → is_forged tag (attacked left) 1 1 ≡ false
 unfolding is_forged openings_of wallet_owner bound_by unsigned signed
-attacked-honest left =
-    λ i. (forges-not [] 4 (planted 1) (planted-worked 1 (omega arith)) (unsigned_not (transfer 1 200 stranger)) i
-    || (forges-not [] 5 (taken 1 4) (taken-worked 1 4 (omega arith) (omega arith)) (signs_not (transfer 1 4 stranger))
-    i || false)) || false
+attacked-honest left = grind (arith, common_steps, forges-not, planted-worked, unsigned_not, taken-worked, signs_not)
 
 -- the strings of an opening
 pub strings-are : (block : ℕ) (tx : SignedTx) → IsWorked tx
@@ -295,15 +261,10 @@ abbrev Prints : ℕ → ℕ → Type 0
 Prints coin mark = (mark < 256) × (digest (leaf_string (text coin mark)) ≡ print 0 mark)
 
 first-marks : (mark : ℕ) → Has (231 ∷ 230 ∷ 34 ∷ []) mark → Prints 1 mark
-first-marks mark (inl is) = subst (Prints 1) is (omega arith, hidden-print)
-first-marks mark (inr (inl is)) = subst (Prints 1) is (omega arith, planted-print 1)
-first-marks mark (inr (inr (inl is))) = subst (Prints 1) is (omega arith, taken-print-4 1)
-first-marks mark (inr (inr (inr none))) = absurd none
+first-marks mark h1 = grind (arith, common_steps, hidden-print, planted-print, taken-print-4)
 
 second-marks : (mark : ℕ) → Has (230 ∷ 36 ∷ []) mark → Prints 2 mark
-second-marks mark (inl is) = subst (Prints 2) is (omega arith, planted-print 2)
-second-marks mark (inr (inl is)) = subst (Prints 2) is (omega arith, taken-print-6 2)
-second-marks mark (inr (inr none)) = absurd none
+second-marks mark h1 = grind (arith, common_steps, planted-print, taken-print-6)
 
 -- the openings of the first exit, and of the second; and those of the first with the hidden transfer
 pub clear-one : has_clash digest (strings_of digest 1 (shows 4 (planted 1) ∷ shows 5 (taken 1 4) ∷ [])) ≡ false

@@ -7,6 +7,7 @@ use Rattle.std.proofs.lemmas.Bool.{lt-ltb, and_parts, false_from_ne_true, true�
 use Rattle.std.proofs.lemmas.List.FromFn.{get_or-map-range_with_len}
 use Rattle.std.proofs.lemmas.Nat.Bits.{bit_at-zero}
 use Rattle.std.proofs.lemmas.Slice.Eq.{bytes_eq-Decides}
+use Rattle.std.proofs.lemmas.Grind.{common_steps}
 use Rattle.sparse_merkle.specs.MaskedPath.{proof_path, sibling_at}
 use Rattle.sparse_merkle.specs.Opening.{parent_string, hashed_string, hashed_strings}
 use Rattle.sparse_merkle.specs.TreeDigest.{bit_of, leaf_string, node_string, subtree_digest, default_digest}
@@ -62,10 +63,7 @@ module _ (c i : ℕ) (small : i < 256) (leaf : List ℕ) (is : digest (leaf_stri
   unfolding hashed_string
   string-prints zero low = is
   string-prints (suc l) low =
-      let below = string-prints l (omega (arith, low)) in
-      let beside = sibling-prints l (omega (arith, low)) in
-      (λ k. digest (parent_string (bit_of c l) (below k) (beside k)))
-      ∙ parent-prints (bit_of c l) l i (omega (arith, low)) small
+      grind (arith, common_steps, string-prints l (omega (arith, low)), sibling-prints, parent-prints)
 
 -- what was printed
 level-printed : (l m i j : ℕ) → l < 256 → m < 256 → print l i ≡ print m j → l ≡ m
@@ -107,9 +105,6 @@ module _ (dig : List ℕ → List ℕ) where
 -- the leaves of these marks, at a coin
 module _ (c : ℕ) (text : ℕ → List ℕ) (marks : List ℕ)
     (reads : (i : ℕ) → Has marks i → (i < 256) × (digest (leaf_string (text i)) ≡ print 0 i)) where
-  strings-up : ℕ → List (List ℕ)
-  strings-up i = hashed_strings digest c (text i) (proof_path digest alone)
-
   record Stands (s : List ℕ) : Type 0 where
     mark : ℕ
     level : ℕ
@@ -137,15 +132,4 @@ module _ (c : ℕ) (text : ℕ → List ℕ) (marks : List ℕ)
 
   pub clear :
       has_clash digest (flat_map (λ i. hashed_strings digest c (text i) (proof_path digest alone)) marks) ≡ false
-  clear =
-      none-clash digest (flat_map (λ i. hashed_strings digest c (text i) (proof_path digest alone)) marks)
-      (λ s t first second same.
-      let one = stands s first in
-      let other = stands t second in
-      let printed = sym one.prints ∙ same ∙ other.prints in
-      let level = level-printed one.level other.level one.mark other.mark (omega (arith, one.low))
-      (omega (arith, other.low)) printed in
-      let mark = leaf-printed one.level other.level one.mark other.mark one.small other.small printed in
-      sym one.string
-      ∙ (λ k. hashed_string digest c (text (mark k)) (proof_path digest alone) (level k))
-      ∙ other.string)
+  clear = grind (arith, common_steps, none-clash, stands, level-printed, leaf-printed)

@@ -1,12 +1,13 @@
 -- What each account has after an exit ended.
-use Rattle.std.proofs.Common.{◌≡◌, ℕ, ◌+◌, ◌==◌, ◌&&◌, cond, not, Bool, true, false, if◌then◌else◌, List, [], ◌∷◌, Some, refl, sym, ap, ◌∙◌, subst, filter, arith}
+use Rattle.std.proofs.Common.{◌≡◌, ℕ, ◌+◌, ◌==◌, ◌&&◌, cond, not, Bool, true, false, if◌then◌else◌, List, [], ◌∷◌, Some, refl, filter, arith}
 use Rattle.std.specs.List.{list_all}
 use Rattle.std.proofs.lemmas.Bool.{eqb-true, and_parts, false≢true}
+use Rattle.std.proofs.lemmas.Grind.{common_steps}
 use Rattle.plasma_tx.specs.declared.rules.TheConstants.{EXIT_BOND}
 use Rattle.plasma_tx.specs.declared.call.RootCall.{RootCall}
 use Rattle.plasma_tx.specs.declared.call.RootCall.TheVariants.{After, Between, Finish}
-use Rattle.plasma_tx.specs.Views.{coin_at, Challenge, Exit, exit_at, is_withdrawn}
-use Rattle.plasma_tx.specs.Money.{amount_of, challenge_bonds, cancel_pays, payout, finish_pays, pays, takes, share_of, balance_of}
+use Rattle.plasma_tx.specs.Views.{Challenge, Exit, exit_at}
+use Rattle.plasma_tx.specs.Money.{challenge_bonds, cancel_pays, payout, pays, takes, share_of, balance_of}
 use Rattle.money_laws.specs.Bonds.{bonds_at, first_or, if_to, EndsPayBonds}
 
 -- the amount, where it is so
@@ -14,27 +15,16 @@ abbrev part : Bool → ℕ → ℕ
 part b amount = if b then amount else 0
 
 pub none-to : (account paid : ℕ) → if_to account paid 0 ≡ 0
-none-to account paid = by_test (paid == account)
-  where
-    by_test : (b : Bool) → part b 0 ≡ 0
-    by_test true = refl
-    by_test false = refl
+none-to account paid = grind (arith, common_steps)
 
 sum-to : (account paid one other : ℕ)
     → if_to account paid (one + other) ≡ if_to account paid other + if_to account paid one
-sum-to account paid one other = by_test (paid == account)
-  where
-    by_test : (b : Bool) → part b (one + other) ≡ part b other + part b one
-    by_test true = omega arith
-    by_test false = refl
+sum-to account paid one other = grind (arith, common_steps)
 
 -- the call names the exit
 named : (log : List RootCall) (c block k f : ℕ) (exit : Exit) → exit_at log c block ≡ Some exit
     → ((k == c) && (f == block)) ≡ true → exit_at log k f ≡ Some exit
-named log c block k f exit found is =
-    let parts = and_parts (k == c) (f == block) is in
-    subst (λ n. exit_at log n f ≡ Some exit) (sym (eqb-true k c parts.0))
-    (subst (λ m. exit_at log c m ≡ Some exit) (sym (eqb-true f block parts.1)) found)
+named log c block k f exit found is = grind (arith, common_steps, and_parts, eqb-true)
 
 -- who cancels an exit gets its bond, and the open challenges' bonds go back
 cancelled : (account by : ℕ) (exit : Exit)
@@ -69,16 +59,8 @@ finished account exit withdrawn amount (y ∷ ys) =
 pub ends_pay_bonds : EndsPayBonds
 unfolding balance_of pays takes share_of
 ends_pay_bonds log (After by k f spend) c block account exit found is =
-    let paid = ap (λ o. share_of account (cancel_pays by o)) (named log c block k f exit found is)
-    ∙ cancelled account by exit in
-    omega (arith, paid, none-to account exit.account)
+    grind (arith, common_steps, named, cancelled, none-to)
 ends_pay_bonds log (Between by k f spend) c block account exit found is =
-    let paid = ap (λ o. share_of account (cancel_pays by o)) (named log c block k f exit found is)
-    ∙ cancelled account by exit in
-    omega (arith, paid, none-to account exit.account)
-ends_pay_bonds log (Finish by k f) c block account exit found is =
-    let paid = ap (λ o. share_of account (finish_pays (is_withdrawn log k) (amount_of (coin_at log k)) o))
-    (named log c block k f exit found is)
-    ∙ finished account exit (is_withdrawn log k) (amount_of (coin_at log k)) exit.challenges in
-    omega (arith, paid)
+    grind (arith, common_steps, named, cancelled, none-to)
+ends_pay_bonds log (Finish by k f) c block account exit found is = grind (arith, common_steps, named, finished)
 ends_pay_bonds log call c block account exit found is = absurd (false≢true is)

@@ -1,15 +1,15 @@
 -- Befores that are ready are accepted one after the other, where the account has the reserve.
-use Rattle.std.proofs.Common.{◌≡◌, ℕ, ◌+◌, ◌≤◌, ◌==◌, ◌&&◌, not, Bool, true, false, if◌then◌else◌, List, [], ◌∷◌, Some, None, inl, inr, ◌⊎◌, refl, sym, ap, ◌∙◌, subst, arith}
-use Rattle.std.specs.Prelude.{nat_lt}
+use Rattle.std.proofs.Common.{◌≡◌, ℕ, ◌+◌, ◌≤◌, ◌==◌, Bool, true, false, if◌then◌else◌, List, [], ◌∷◌, Some, None, inl, inr, ◌⊎◌, refl, sym, subst, arith, rules}
 use Rattle.std.specs.List.{list_any}
 use Rattle.std.proofs.lemmas.Bool.{eqb-true, and_parts, false≢true}
-use Rattle.plasma_tx.specs.declared.rules.TheConstants.{CHALLENGE_BOND, CHALLENGE_WINDOW}
+use Rattle.std.proofs.lemmas.Grind.{common_steps}
+use Rattle.plasma_tx.specs.declared.rules.TheConstants.{CHALLENGE_BOND}
 use Rattle.plasma_tx.specs.declared.call.Shown.{Shown}
 use Rattle.plasma_tx.specs.declared.call.RootCall.{RootCall}
 use Rattle.plasma_tx.specs.declared.call.RootCall.TheVariants.{After, Between, Before, Respond}
 use Rattle.plasma_tx.specs.Views.{now, block_at, coin_at, Exit, exits, exit_at, block_of, challenge_at, with_answer}
 use Rattle.plasma_tx.specs.Shown.{Tests, Rules, shown_tx}
-use Rattle.plasma_tx.specs.Table.{answer_to, is_accepted, log_after, is_over}
+use Rattle.plasma_tx.specs.Table.{answer_to, is_accepted, log_after}
 use Rattle.plasma_tx.specs.RuleLaws.{is_of_exit}
 use Rattle.plasma_tx.specs.Money.{takes, share_of, balance_of}
 use Rattle.plasma_tx.proofs.Accepted.{accepted_calls_show}
@@ -30,41 +30,11 @@ module _ (tests : Tests) (rules : Rules) (log : List RootCall) where
   free-could : (call : RootCall) (k g : ℕ) (offered : Shown) → is_free call ≡ true → is_of_exit k g call ≡ false
       → Could tests rules log k g offered → Could tests rules (call ∷ log) k g offered
   unfolding now coin_at block_at shown_tx
-  free-could (After by c f spend) k g offered free other could = record {
-    exit = could.exit;
-    stands = others_leave_exits log (After by c f spend) k g other ∙ could.stands;
-    in_time = could.in_time;
-    before = could.before;
-    owner = could.owner;
-    owner_shown = could.owner_shown;
-    none_there = could.none_there;
-  }
-  free-could (Between by c f spend) k g offered free other could = record {
-    exit = could.exit;
-    stands = others_leave_exits log (Between by c f spend) k g other ∙ could.stands;
-    in_time = could.in_time;
-    before = could.before;
-    owner = could.owner;
-    owner_shown = could.owner_shown;
-    none_there = could.none_there;
-  }
-  free-could (Respond by c f challenged spend) k g offered free other could = record {
-    exit = could.exit;
-    stands = others_leave_exits log (Respond by c f challenged spend) k g other ∙ could.stands;
-    in_time = could.in_time;
-    before = could.before;
-    owner = could.owner;
-    owner_shown = could.owner_shown;
-    none_there = could.none_there;
-  }
-  free-could call k g offered free other could = absurd (false≢true free)
+  free-could call k g offered free other could = grind (arith, common_steps, others_leave_exits, false≢true)
 
   -- an answer leaves what an exit asks
   answered-asks : (c e challenged : ℕ) (x : Exit) → asks log c e (with_answer challenged x) ≡ asks log c e x
-  answered-asks c e challenged x =
-      ap (λ b. bond_if ((x.coin == c)
-      && (nat_lt e x.parent && b && not (is_over log x.start CHALLENGE_WINDOW))))
-      (is_none-answered e challenged x.challenges)
+  answered-asks c e challenged x = grind (arith, common_steps, bond_if, is_none-answered)
 
   free-reserve : (call : RootCall) (c e : ℕ) → is_free call ≡ true
       → is_accepted (answer_to tests rules log call) ≡ true → reserve (call ∷ log) c e ≤ reserve log c e
@@ -94,10 +64,7 @@ module _ (tests : Tests) (rules : Rules) (log : List RootCall) where
   free-balance : (call : RootCall) (account : ℕ) → is_free call ≡ true
       → balance_of log account ≤ balance_of (call ∷ log) account
   unfolding balance_of takes share_of
-  free-balance (After by k f spend) account free = omega arith
-  free-balance (Between by k f spend) account free = omega arith
-  free-balance (Respond by k f challenged spend) account free = omega arith
-  free-balance call account free = absurd (false≢true free)
+  free-balance call account free = grind (arith, common_steps, false≢true)
 
 -- ---- one after the other
 
@@ -142,27 +109,13 @@ module _ (tests : Tests) (rules : Rules) (account : ℕ) (tips : List Tip) where
       → AreReady tests rules (Before by c f shown ∷ log) account tips calls
   unfolding CouldBe
   ready-before log by c f shown x stands none calls once =
-      ready-still log (Before by c f shown) calls (λ call there.
-      still call (any-none (is_same_before (Before by c f shown)) calls call once there))
-    where
-      still : (call : RootCall) → is_same_before (Before by c f shown) call ≡ false → CouldBe tests rules log call
-          → CouldBe tests rules (Before by c f shown ∷ log) call
-      still (Before to k g offered) apart could =
-          could-after tests rules log by c f shown x stands none k g offered could apart
-      still call apart could = absurd could
+      grind (arith, common_steps, ready-still, any-none, could-after)
 
   ready-free : (log : List RootCall) (new : RootCall) (calls : List RootCall) → is_free new ≡ true
       → list_any (is_before_of new) calls ≡ false → AreReady tests rules log account tips calls
       → AreReady tests rules (new ∷ log) account tips calls
   unfolding CouldBe
-  ready-free log new calls free others =
-      ready-still log new calls (λ call there.
-      still call (any-none (is_before_of new) calls call others there))
-    where
-      still : (call : RootCall) → is_before_of new call ≡ false → CouldBe tests rules log call
-          → CouldBe tests rules (new ∷ log) call
-      still (Before to k g offered) apart could = free-could tests rules log new k g offered free apart could
-      still call apart could = absurd could
+  ready-free log new calls free others = grind (arith, common_steps, ready-still, any-none, free-could)
 
   -- what is accepted behind a call, whether or not it is accepted
   behind : (call : RootCall) (calls log : List RootCall)
@@ -170,13 +123,7 @@ module _ (tests : Tests) (rules : Rules) (account : ℕ) (tips : List Tip) where
       → BeforesAreAccepted tests rules log calls
       → BeforesAreAccepted tests rules (log_after tests rules log call) calls
   unfolding log_after
-  behind call calls log more same =
-      (elim (is_accepted (answer_to tests rules log call)) as (λ b.
-      is_accepted (answer_to tests rules log call) ≡ b
-      → BeforesAreAccepted tests rules (if b then call ∷ log else log) calls) [
-        | true ↦ λ ok. more ok
-        | false ↦ λ refused. same
-      ]) refl
+  behind call calls log more same = grind (arith, common_steps)
 
   -- no Before takes no money
   free-not : (call : RootCall) → is_free call ≡ true → is_before call ≡ true → ⊥

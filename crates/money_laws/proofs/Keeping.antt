@@ -1,7 +1,8 @@
 -- Who keeps a coin: what is known of it, and what was before an event.
-use Rattle.std.proofs.Common.{◌≡◌, ◌≢◌, ◌⊎◌, ℕ, ◌+◌, ◌<◌, ◌==◌, ◌&&◌, ◌||◌, not, true, false, if◌then◌else◌, List, [], ◌∷◌, Option, Some, None, inl, inr, refl, sym, ap, ◌∙◌, subst, arith}
+use Rattle.std.proofs.Common.{◌≡◌, ◌≢◌, ◌⊎◌, ℕ, ◌+◌, ◌<◌, ◌==◌, true, false, if◌then◌else◌, List, [], ◌∷◌, Some, inl, inr, refl, sym, ap, ◌∙◌, subst, arith, rules}
 use Rattle.std.specs.List.{list_any}
 use Rattle.std.proofs.lemmas.Bool.{cases_eq, eq-eqb, ne_eqb, eqb-true, and_parts, or_cases, or_left, or_right, not-true, true≢false, false≢true, false_from_ne_true}
+use Rattle.std.proofs.lemmas.Grind.{common_steps}
 use Rattle.plasma_tx.specs.declared.owner.Owner.{Owner}
 use Rattle.plasma_tx.specs.declared.body.Body.{Body}
 use Rattle.plasma_tx.specs.declared.opening.RawOpening.{RawOpening}
@@ -13,7 +14,6 @@ use Rattle.plasma_tx.specs.Shown.{Tests, Rules, tests_by}
 use Rattle.plasma_tx.specs.Links.{last_owner_of}
 use Rattle.plasma_tx.proofs.Bounds.{coin_at-le}
 use Rattle.watch_duty.proofs.Members.{Has}
-use Rattle.wallet_core.specs.State.{is_owner}
 use Rattle.world_rules.specs.Laws.{IsDigest}
 use Rattle.world_rules.specs.Events.{Event, Declares, Joins, Accepts, Binds, TakesBack, log_of, wallet_owner, accepted, bound_by, taken_back, not_taken, leaf_at, signed_away_by, is_sent_from, is_bundle}
 use Rattle.world_rules.specs.Exhibits.{seen, strings_of, has_clash, forges_one}
@@ -27,7 +27,7 @@ use Rattle.world_laws.proofs.Bound.{SignsBy, is_noted, owner-is, line_bound, uns
 use Rattle.world_laws.proofs.Held.{Known, HeldAt, known-from, bundle-named, deposited-coin, empty-walk, end_shown, shown_same}
 use Rattle.world_laws.proofs.Before.{NoneStands, none-stands, none-before}
 use Rattle.world_laws.proofs.Watched.{IsSpend}
-use Rattle.money_laws.specs.Keepers.{keeps_with, keeps}
+use Rattle.money_laws.specs.Keepers.{keeps}
 
 -- what it is to keep
 pub record Keeping (events : List Event) (w c e : ℕ) : Type 0 where
@@ -39,16 +39,7 @@ pub record Keeping (events : List Event) (w c e : ℕ) : Type 0 where
 
 pub keeping : (events : List Event) (w c e : ℕ) → keeps events w c e ≡ true → Keeping events w c e
 unfolding keeps
-keeping events w c e is = by_owner (wallet_owner events w) refl is
-  where
-    by_owner : (o : Option Owner) → wallet_owner events w ≡ o
-        → keeps_with (log_of events) o (signed_away_by events w) (accepted events w) c e ≡ true
-        → Keeping events w c e
-    by_owner None o_is h = absurd (false≢true h)
-    by_owner (Some me) o_is h =
-        let parts = and_parts (was_deposited me e (coin_at (log_of events) c)
-        || list_any (is_bundle c e) (accepted events w)) (not (is_sent_from (signed_away_by events w) c e)) h in
-        record { me = me; me_is = o_is; source = or_cases _ _ parts.0; not_away = not-true _ parts.1 }
+keeping events w c e is = grind (arith, common_steps, false≢true, and_parts, or_cases, not-true)
 
 -- the coin that is kept, with a history up to e
 pub kept_at : (tests : Tests) (rules : Rules) (events : List Event) (w c e : ℕ) → IsLegal tests rules events
@@ -56,17 +47,7 @@ pub kept_at : (tests : Tests) (rules : Rules) (events : List Event) (w c e : ℕ
 kept_at tests rules events w c e legal h =
     elim h.source [
       | inl deposited ↦
-          let d = deposited-coin h.me e (coin_at (log_of events) c) deposited in
-          record {
-            made = d.0;
-            made_is = d.1;
-            openings = [];
-            known = record {
-              walk = empty-walk tests rules (log_of events) c d.0 e h.me d.2 d.3;
-              has = λ o k. absurd k;
-            };
-            from = λ o k. absurd k;
-          }
+          grind (arith, common_steps, deposited-coin, empty-walk)
       | inr accepted_is ↦
           let r = any-some (is_bundle c e) (accepted events w) accepted_is in
           let n = is_noted tests rules events w r.0 legal r.1 in
@@ -95,9 +76,7 @@ deposit-caller [] c made is = absurd (none_some made is)
 deposit-caller (Deposit account amount key ∷ log) c made is =
     (elim (c == coins log + 1) as (λ b. (if b then Some (new_coin log account amount key) else coin_at log c)
     ≡ Some made → list_any (deposits_by made.owner.account) (Deposit account amount key ∷ log) ≡ true) [
-      | true ↦ λ same. or_left (account == made.owner.account) (list_any (deposits_by made.owner.account) log)
-          (eq-eqb account made.owner.account
-          (ap (λ (x : CoinView). x.owner.account) (some_same (new_coin log account amount key) made same)))
+      | true ↦ grind (arith, common_steps, or_left, eq-eqb, some_same)
       | false ↦ λ later. or_right (account == made.owner.account) (list_any (deposits_by made.owner.account) log)
           (deposit-caller log c made later)
     ]) is
@@ -113,18 +92,7 @@ before-deposit : (tests : Tests) (rules : Rules) (account amount : ℕ) (key : L
     → KeptBefore (Joins (Deposit account amount key)) events w c e
 unfolding log_of wallet_owner accepted bound_by taken_back coin_at exits
 before-deposit tests rules account amount key events w c e legal h =
-    elim (cases_eq c (coins (log_of events) + 1)) [
-      | inl new ↦ inr (λ x there c_is.
-          let s = all_shown tests rules events legal x there in
-          let low = coin_at-le (log_of events) x.coin s.made s.made_is in
-          absurd (omega (arith, low, c_is)))
-      | inr apart ↦ inl (record {
-        me = h.me;
-        me_is = h.me_is;
-        source = simp (ne_eqb c (coins (log_of events) + 1) apart) at h.source;
-        not_away = h.not_away;
-      })
-    ]
+    grind (arith, common_steps, cases_eq, all_shown, coin_at-le, ne_eqb)
 
 -- a coin that is kept after an event was kept before it, or no exit of it stands after the event
 pub kept_before : (tests : Tests) (rules : Rules) (event : Event) (events : List Event) (w c e : ℕ)
@@ -140,15 +108,8 @@ kept_before tests rules (Declares v me) events w c e legal h =
     new-one : v ≡ w → me ≡ h.me
         → (was_deposited h.me e (coin_at (log_of events) c) ≡ true)
         ⊎ (list_any (is_bundle c e) (accepted events w) ≡ true) → ⊥
-    new-one same mine (inl deposited) = by_coin (coin_at (log_of events) c) refl deposited
-      where
-        by_coin : (o : Option CoinView) → coin_at (log_of events) c ≡ o → was_deposited h.me e o ≡ true → ⊥
-        by_coin None is was = false≢true was
-        by_coin (Some made) is was =
-            let owner = owner-is made.owner h.me (and_parts (made.deposit == e) (is_owner made.owner h.me) was).1 in
-            let account : made.owner.account ≡ me.account = ap (λ (x : Owner). x.account) (owner ∙ sym mine) in
-            true≢false (sym (deposit-caller (log_of events) c made is)
-            ∙ ap (λ a. list_any (deposits_by a) (log_of events)) account ∙ legal.0.no_deposit)
+    new-one same mine (inl deposited) =
+        grind (arith, common_steps, false≢true, owner-is, and_parts, true≢false, deposit-caller)
     new-one same mine (inr was) =
         let r = any-some (is_bundle c e) (accepted events w) was in
         let n = is_noted tests rules events w r.0 legal.1 r.1 in
@@ -161,30 +122,15 @@ kept_before tests rules (Accepts v bundle) events w c e legal h =
     → KeptBefore (Accepts v bundle) events w c e) [
       | false ↦ λ source. inl (record { me = h.me; me_is = h.me_is; source = source; not_away = h.not_away })
       | true ↦ λ source. elim source [
-        | inl deposited ↦ inl (record {
-          me = h.me;
-          me_is = h.me_is;
-          source = inl deposited;
-          not_away = h.not_away;
-        })
+        | inl deposited ↦ grind (arith, common_steps)
         | inr was ↦ elim (or_cases (is_bundle c e bundle) (list_any (is_bundle c e) (accepted events w)) was) [
-          | inr earlier ↦ inl (record {
-            me = h.me;
-            me_is = h.me_is;
-            source = inr earlier;
-            not_away = h.not_away;
-          })
+          | inr earlier ↦ grind (arith, common_steps)
           | inl this ↦ inr (none-stands (log_of events) bundle.coin c legal.0.none_stands
               (eqb-true bundle.coin c (and_parts (bundle.coin == c) (bundle.tip == e) this).0))
         ]
       ]
     ]) h.source
-kept_before tests rules (Binds v body) events w c e legal h = inl (record {
-  me = h.me;
-  me_is = h.me_is;
-  source = h.source;
-  not_away = away-unbind (v == w) c e (taken_back events w) body (bound_by events w) h.not_away;
-})
+kept_before tests rules (Binds v body) events w c e legal h = grind (arith, common_steps, away-unbind)
 kept_before tests rules (TakesBack v q bundle) events w c e legal h =
     (elim (v == w) as (λ b. (v == w) ≡ b
     → is_sent_from (not_taken (if b then q ∷ taken_back events w else taken_back events w) (bound_by events w)) c e
@@ -192,25 +138,14 @@ kept_before tests rules (TakesBack v q bundle) events w c e legal h =
       | false ↦ λ apart off. inl (record { me = h.me; me_is = h.me_is; source = h.source; not_away = off })
       | true ↦ λ same off. elim (cases_eq bundle.coin c) [
         | inl this ↦ inr (none-stands (log_of events) bundle.coin c legal.0.none_stands this)
-        | inr other ↦ inl (record {
-          me = h.me;
-          me_is = h.me_is;
-          source = h.source;
-          not_away = away-untake q c e (taken_back events w) (bound_by events w) (named other (eqb-true v w same))
-              off;
-        })
+        | inr other ↦ grind (arith, common_steps, away-untake, eqb-true)
       ]
     ]) refl h.not_away
   where
     -- the leaf is of another coin
     named : bundle.coin ≢ c → v ≡ w → (body : Body) → leaf_at q (bound_by events w) ≡ Some body
         → names c e body ≡ false
-    named other same body is =
-        let r : legal.0.body ≡ body =
-        some_same legal.0.body body (sym legal.0.leaf_is ∙ ap (λ x. leaf_at q (bound_by events x)) same ∙ is) in
-        false_from_ne_true ((body.coin == c) && (body.parent == e)) (λ on. other (sym legal.0.coin_is
-        ∙ ap (λ (x : Body). x.coin) r
-        ∙ eqb-true body.coin c (and_parts (body.coin == c) (body.parent == e) on).0))
+    named other same body is = grind (arith, common_steps, some_same, false_from_ne_true, eqb-true, and_parts)
 kept_before tests rules event events w c e legal h =
     inl (record { me = h.me; me_is = h.me_is; source = h.source; not_away = h.not_away })
 
@@ -247,11 +182,7 @@ module _ (tests : Tests) (rules : Rules) (signs : SignsBy tests) (events : List 
   -- whoever is shown to own the block e is the keeper
   pub keeper-owns : (owner : Owner) (n : ℕ)
       → IsShownAt tests rules (log_of events) (seen events c) c at.held.made n owner → n ≡ e → owner ≡ at.keep.me
-  keeper-owns owner n shown is =
-      shown_same tests rules (log_of events) (seen events c) c at.held.made at.one_before e owner at.keep.me
-      (subst (λ k. IsShownAt tests rules (log_of events) (seen events c) c at.held.made k owner) is shown)
-      (end_shown tests rules (log_of events) (seen events c) c at.held.made at.one_before e at.keep.me
-      at.held.openings at.held.known)
+  keeper-owns owner n shown is = grind (arith, common_steps, shown_same, end_shown)
 
   -- no opening of the event's call spends the tip
   pub tip-kept : (openings : List RawOpening)

@@ -1,8 +1,9 @@
 -- An exit that has led since it began is paid.
-use Rattle.std.proofs.Common.{◌≡◌, ℕ, ◌+◌, ◌<◌, ◌≤◌, ◌==◌, ◌&&◌, ◌||◌, not, Bool, true, false, if◌then◌else◌, List, [], ◌∷◌, ◌++◌, Option, Some, None, option_map, inl, inr, refl, sym, ap, ◌∙◌, subst, arith}
+use Rattle.std.proofs.Common.{◌≡◌, ℕ, ◌+◌, ◌<◌, ◌≤◌, ◌==◌, ◌&&◌, ◌||◌, not, Bool, true, false, if◌then◌else◌, List, [], ◌∷◌, ◌++◌, Option, Some, None, option_map, inl, inr, refl, sym, ap, ◌∙◌, subst, arith, rules}
 use Rattle.std.specs.Prelude.{is_some, nat_le}
 use Rattle.std.specs.List.{AllByRecursion, list_any, list_all}
 use Rattle.std.proofs.lemmas.Bool.{cases_Bool, eqb-true, eq-eqb, leb-true, leb-false, le-leb, and_parts, and_from, not-true, not_from_false, true≢false, false≢true, false_from_ne_true}
+use Rattle.std.proofs.lemmas.Grind.{common_steps}
 use Rattle.plasma_tx.specs.declared.rules.TheConstants.{CHALLENGE_WINDOW, RESPONSE_WINDOW, EXIT_PERIOD}
 use Rattle.plasma_tx.specs.declared.call.RootCall.{RootCall}
 use Rattle.plasma_tx.specs.declared.call.RootCall.TheVariants.{Tick, StartDeposit, StartSpend, Before, Respond, Finish}
@@ -66,11 +67,7 @@ led-leads (call ∷ log) c e is = (and_parts (leads (call ∷ log) c e) (is_star
 
 lead-kept : (log : List RootCall) (c e : ℕ) → leads log c e ≡ true → (x : Exit) → Has (exits log) x → x.coin ≡ c
     → ends_lead (now log) e x ≡ false
-lead-kept log c e is x there c_is =
-    and-off (x.coin == c) (ends_lead (now log) e x)
-    (any-none (λ exit. (exit.coin == c) && ends_lead (now log) e exit) (exits log) x
-    (not-true (list_any (λ exit. (exit.coin == c) && ends_lead (now log) e exit) (exits log)) is) there)
-    (eq-eqb x.coin c c_is)
+lead-kept log c e is x there c_is = grind (arith, common_steps, and-off, any-none, not-true, eq-eqb)
 
 -- no other standing exit is ripe
 not-ripe : (log : List RootCall) (c e : ℕ) → leads log c e ≡ true → (x : Exit) → Has (exits log) x → x.coin ≡ c
@@ -230,22 +227,9 @@ firsts_lead log c e own found first none early =
     let c_is = eqb-true x.coin c parts.0 in
     elim (cases_Bool (x.block == e)) [
       | inl at ↦
-          let missed : list_any (is_missed (now log)) x.challenges ≡ true =
-          sym (ap (λ b. if b then list_any (is_missed (now log)) x.challenges else is_ripe (now log) x) at)
-          ∙ parts.1 in
-          let same = the-one log c e own x found there c_is (eqb-true x.block e at) in
-          true≢false (sym missed
-          ∙ ap (λ (y : Exit). list_any (is_missed (now log)) y.challenges) same ∙ none)
+          grind (arith, common_steps, the-one, eqb-true, true≢false)
       | inr apart ↦
-          let ripe : is_ripe (now log) x ≡ true =
-          sym (ap (λ b. if b then list_any (is_missed (now log)) x.challenges else is_ripe (now log) x) apart)
-          ∙ parts.1 in
-          let over = leb-true (x.start + EXIT_PERIOD) (now log) ripe in
-          let later = leb-false (x.start + 1) own.start
-          (and-off (x.coin == c) (nat_le (x.start + 1) own.start)
-          (any-none (λ other. (other.coin == c) && nat_le (other.start + 1) own.start) (exits log) x first there)
-          parts.0) in
-          absurd (omega (arith, over, later, early))
+          grind (arith, common_steps, leb-true, leb-false, and-off, any-none)
     ])))
 
 -- ---- who ends first is paid
@@ -263,19 +247,20 @@ ahead-kept : (time : ℕ) (log : List RootCall) (c e : ℕ) → ends_first time 
 unfolding ends_first
 ahead-kept time [] c e is by x there c_is apart = absurd (false≢true is)
 ahead-kept time (call ∷ log) c e is by x there c_is apart =
-    let now_is : ℕ = now (call ∷ log) in
-    let never = not-true (list_any (λ (exit : Exit). (exit.coin == c) && not (exit.block == e) && is_ripe time exit)
-    (exits (call ∷ log)))
-    (and_parts (not (list_any (λ (exit : Exit). (exit.coin == c) && not (exit.block == e) && is_ripe time exit)
-    (exits (call ∷ log)))) (is_start c e call || ends_first time log c e) is).0 in
-    let off = any-none (λ (exit : Exit). (exit.coin == c) && not (exit.block == e) && is_ripe time exit)
-    (exits (call ∷ log)) x never there in
-    false_from_ne_true (is_ripe now_is x) (λ ripe.
-    let over = leb-true (x.start + EXIT_PERIOD) now_is ripe in
-    true≢false (sym (and_from ((x.coin == c) && not (x.block == e)) (is_ripe time x)
-    (and_from (x.coin == c) (not (x.block == e)) (eq-eqb x.coin c c_is) (not_from_false (x.block == e) apart))
-    (le-leb (x.start + EXIT_PERIOD) time (omega (arith, over, by))))
-    ∙ off))
+    grind (
+      arith,
+      common_steps,
+      not-true,
+      and_parts,
+      any-none,
+      false_from_ne_true,
+      leb-true,
+      true≢false,
+      and_from,
+      eq-eqb,
+      not_from_false,
+      le-leb,
+    )
 
 unpaid-ahead : (rules : Rules) (time : ℕ) (log : List RootCall) (c e : ℕ) (own : Exit) → IsLegal rules log
     → now log ≤ time → exit_at log c e ≡ Some own → ends_first time log c e ≡ true → is_withdrawn log c ≡ false

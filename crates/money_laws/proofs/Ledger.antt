@@ -1,8 +1,8 @@
 -- What an account has, with what it has at stake, over the calls of a log.
-use Rattle.std.proofs.Common.{◌≡◌, ◌≢◌, ℕ, ◌+◌, ◌*◌, ◌≤◌, ◌==◌, ◌&&◌, not, Bool, true, false, if◌then◌else◌, List, [], ◌∷◌, ◌++◌, Some, None, inl, inr, refl, ap, ◌∙◌, subst, cond, filter, arith}
+use Rattle.std.proofs.Common.{◌≡◌, ◌≢◌, ℕ, ◌+◌, ◌*◌, ◌≤◌, ◌==◌, ◌&&◌, not, Bool, true, false, if◌then◌else◌, List, [], ◌∷◌, ◌++◌, Some, None, inl, inr, refl, ap, ◌∙◌, subst, cond, filter, arith, rules}
 use Rattle.std.specs.Prelude.{is_some}
-use Rattle.std.specs.Option.{option_map_or}
 use Rattle.std.proofs.lemmas.Bool.{eqb-true, eq-eqb, ne_eqb, and_from, or_parts, false_from_ne_true}
+use Rattle.std.proofs.lemmas.Grind.{common_steps}
 use Rattle.plasma_tx.specs.declared.rules.TheConstants.{EXIT_BOND, CHALLENGE_BOND}
 use Rattle.plasma_tx.specs.declared.opening.RawOpening.{RawOpening}
 use Rattle.plasma_tx.specs.declared.call.Shown.{Shown}
@@ -12,7 +12,7 @@ use Rattle.plasma_tx.specs.Laws.{is_challenged_at}
 use Rattle.plasma_tx.specs.Views.{Challenge, Exit, exits, exit_at, block_of, deposit_exit, spend_exit, challenge_at, with_challenge, with_answer, new_challenge}
 use Rattle.plasma_tx.specs.Shown.{Rules, tests_by, rules_of}
 use Rattle.plasma_tx.specs.Table.{IsLegal as IsLegalLog}
-use Rattle.plasma_tx.specs.Money.{open_challenges, challenge_bonds, pays, takes, share_of, balance_of}
+use Rattle.plasma_tx.specs.Money.{challenge_bonds, pays, takes, share_of, balance_of}
 use Rattle.plasma_tx.proofs.Accepted.{accepted_calls_show}
 use Rattle.plasma_tx.proofs.Answered.{new_challenges_are_open}
 use Rattle.plasma_tx.proofs.Bounds.{responds_answer}
@@ -51,10 +51,7 @@ to-no account paid amount other = ap (λ b. if b then amount else 0) other
 
 bonds-weigh : (account : ℕ) (x : Exit)
     → if_to account x.account EXIT_BOND + bonds_at account x ≡ exit_weight (by_share account) x
-bonds-weigh account x =
-    ap (λ n. if_to account x.account EXIT_BOND + n)
-    (share_of-is account (challenge_bonds (open_challenges x)))
-    ∙ exit_weight-is (by_share account) x
+bonds-weigh account x = grind (arith, common_steps, share_of-is, exit_weight-is, by_share)
 
 bonds-challenged : (account : ℕ) (x : Exit) (new : Challenge)
     → is_some (challenge_at new.block x.challenges) ≡ false → new.answered ≡ false
@@ -88,19 +85,10 @@ Grows account log call =
 
 first-gets : (account other : ℕ) (challenges : List Challenge)
     → EXIT_BOND * one_for (stands_first account challenges) ≤ if_to account (first_or other challenges) EXIT_BOND
-first-gets account other [] = omega arith
-first-gets account other (challenge ∷ challenges) = by_test (challenge.by == account)
-  where
-    by_test : (b : Bool) → EXIT_BOND * (if b then 1 else 0) ≤ (if b then EXIT_BOND else 0)
-    by_test true = omega arith
-    by_test false = omega arith
+first-gets account other challenges = grind (arith, common_steps)
 
 mine-gets : (account by : ℕ) → EXIT_BOND * one_for (by == account) ≤ if_to account by EXIT_BOND
-mine-gets account by = by_test (by == account)
-  where
-    by_test : (b : Bool) → EXIT_BOND * (if b then 1 else 0) ≤ (if b then EXIT_BOND else 0)
-    by_test true = omega arith
-    by_test false = omega arith
+mine-gets account by = grind (arith, common_steps)
 
 module _ (account : ℕ) (log : List RootCall) where
   own-name : (k f : ℕ) → ((k == k) && (f == f)) ≡ true
@@ -109,30 +97,16 @@ module _ (account : ℕ) (log : List RootCall) where
   grows-After : (by k f : ℕ) (spend : RawOpening) (x : Exit) → exit_at log k f ≡ Some x
       → Grows account log (After by k f spend)
   unfolding exits
-  grows-After by k f spend x stands =
-      let paid = ends_pay_bonds log (After by k f spend) k f account x stands (own-name k f) in
-      let gone = ended (bonds_at account) log k f x stands in
-      let won = mine-gets account by in
-      omega (arith, paid, gone, won)
+  grows-After by k f spend x stands = grind (arith, common_steps, ends_pay_bonds, own-name, ended, mine-gets)
 
   grows-Between : (by k f : ℕ) (spend : RawOpening) (x : Exit) → exit_at log k f ≡ Some x
       → Grows account log (Between by k f spend)
   unfolding exits
-  grows-Between by k f spend x stands =
-      let paid = ends_pay_bonds log (Between by k f spend) k f account x stands (own-name k f) in
-      let gone = ended (bonds_at account) log k f x stands in
-      let won = mine-gets account by in
-      omega (arith, paid, gone, won)
+  grows-Between by k f spend x stands = grind (arith, common_steps, ends_pay_bonds, own-name, ended, mine-gets)
 
   grows-Finish : (by k f : ℕ) (x : Exit) → exit_at log k f ≡ Some x → Grows account log (Finish by k f)
   unfolding exits
-  grows-Finish by k f x stands =
-      let paid = ends_pay_bonds log (Finish by k f) k f account x stands (own-name k f) in
-      let gone = ended (bonds_at account) log k f x stands in
-      let won = first-gets account x.account (open_challenges x) in
-      let is : one_for (wins log account (Finish by k f)) ≡ one_for (stands_first account (open_challenges x)) =
-      ap (λ o. one_for (option_map_or (λ exit. stands_first account (open_challenges exit)) o false)) stands in
-      omega (arith, paid, gone, won, is)
+  grows-Finish by k f x stands = grind (arith, common_steps, ends_pay_bonds, own-name, ended, first-gets)
 
   grows-Before : (by k f : ℕ) (shown : Shown) (x : Exit) → exit_at log k f ≡ Some x
       → is_some (challenge_at (block_of shown) x.challenges) ≡ false
@@ -250,12 +224,7 @@ module _ (dig : List ℕ → List ℕ) (digest : IsDigest dig) (rules : Rules) (
       → worth (log_of (later ++ earlier)) account + EXIT_BOND * wins_in (event ∷ later) earlier account
       ≤ worth (log_of (event ∷ later ++ earlier)) account + EXIT_BOND * wins_in later earlier account
   unfolding log_of wins_in
-  grows-event (Joins call) later earlier legal only =
-      let whole = legal-table (tests_by dig) rules (call ∷ log_of (later ++ earlier))
-      (legal-log (tests_by dig) rules (Joins call ∷ later ++ earlier) legal) in
-      let grown = grows-call (later ++ earlier) call legal whole only in
-      omega (arith, grown)
-  grows-event event later earlier legal only = omega arith
+  grows-event event later earlier legal only = grind (arith, common_steps, legal-table, legal-log, grows-call)
 
   grows : (later earlier : List Event) → IsLegal (tests_by dig) rules (later ++ earlier)
       → OnlyGuarded dig rules.tag later earlier account
@@ -264,9 +233,7 @@ module _ (dig : List ℕ → List ℕ) (digest : IsDigest dig) (rules : Rules) (
   unfolding OnlyGuarded IsLegal wins_in
   grows [] earlier legal only = omega arith
   grows (event ∷ later) earlier legal only =
-      let before = grows later earlier legal.1 only.1 in
-      let now = grows-event event later earlier legal only.0 in
-      omega (arith, before, now)
+      grind (arith, common_steps, grows later earlier legal.1 only.1, grows-event)
 
 pub guarding_costs_nothing : LegalGuardingCostsNothing
 guarding_costs_nothing dig rules later earlier account digest legal only =

@@ -1,18 +1,17 @@
 -- The reserve suffices, and no less does.
-use Rattle.std.proofs.Common.{◌≡◌, ℕ, ◌+◌, ◌<◌, ◌≤◌, ◌==◌, ◌&&◌, not, Bool, true, false, if◌then◌else◌, List, [], ◌∷◌, ◌++◌, Option, Some, None, option_map, inl, inr, refl, sym, ap, ◌∙◌, subst, arith}
+use Rattle.std.proofs.Common.{◌≡◌, ℕ, ◌+◌, ◌<◌, ◌≤◌, ◌==◌, ◌&&◌, not, Bool, true, false, if◌then◌else◌, List, [], ◌∷◌, ◌++◌, Option, Some, None, option_map, inl, inr, refl, sym, ap, ◌∙◌, subst, arith, rules}
 use Rattle.std.specs.Prelude.{is_some, is_none, nat_lt}
-use Rattle.std.specs.Option.{option_or}
 use Rattle.std.specs.List.{list_any, list_all}
 use Rattle.std.proofs.lemmas.Bool.{cases_Bool, eqb-true, eq-eqb, lt-ltb, ltb-true, leb-true, and_parts, and_from, or_parts, or_cases, not_from_false, true≢false, false≢true, false_from_ne_true}
+use Rattle.std.proofs.lemmas.Grind.{common_steps}
 use Rattle.plasma_tx.specs.declared.rules.TheConstants.{CHALLENGE_BOND, CHALLENGE_WINDOW}
 use Rattle.plasma_tx.specs.declared.owner.Owner.{Owner}
 use Rattle.plasma_tx.specs.declared.call.Shown.{Shown}
-use Rattle.plasma_tx.specs.declared.call.Shown.TheVariants.{Deposit as AtDeposit, Spend}
 use Rattle.plasma_tx.specs.declared.call.RootCall.{RootCall}
 use Rattle.plasma_tx.specs.declared.call.RootCall.TheVariants.{Before}
 use Rattle.plasma_tx.specs.declared.views.CoinView.{CoinView}
 use Rattle.plasma_tx.specs.Views.{now, block_at, coin_at, Challenge, Exit, exits, exit_at, block_of, challenge_at, with_challenge, new_challenge}
-use Rattle.plasma_tx.specs.Shown.{Tests, Rules, root_at, shown_tx, shown_owner}
+use Rattle.plasma_tx.specs.Shown.{Tests, Rules, shown_tx, shown_owner}
 use Rattle.plasma_tx.specs.Table.{is_over, is_before_parent}
 use Rattle.plasma_tx.specs.Money.{pays, takes, share_of, balance_of}
 use Rattle.plasma_tx.proofs.Accepted.{accepted_calls_show}
@@ -42,11 +41,7 @@ tip-one log c e [] is = absurd (false≢true is)
 tip-one log c e (tip ∷ tips) is =
     elim (or_cases (is_at_tip c e tip) (list_any (is_at_tip c e) tips) is) [
       | inl here ↦
-          let parts = and_parts (tip.coin == c) (tip.block == e) here in
-          let same : reserve log tip.coin tip.block ≡ reserve log c e =
-          ap (λ n. reserve log n tip.block) (eqb-true tip.coin c parts.0)
-          ∙ ap (λ n. reserve log c n) (eqb-true tip.block e parts.1) in
-          omega (arith, same)
+          grind (arith, common_steps, and_parts, eqb-true)
       | inr later ↦ omega (arith, tip-one log c e tips later)
     ]
 
@@ -60,72 +55,36 @@ asks-most true = omega arith
 asks-most false = omega arith
 
 asks-less : (a b m n o : Bool) → (n ≡ false → m ≡ false) → bond_if (a && (b && m && o)) ≤ bond_if (a && (b && n && o))
-asks-less false b m n o off = omega arith
-asks-less true false m n o off = omega arith
-asks-less true true false n o off = omega arith
-asks-less true true true true o off = omega arith
-asks-less true true true false o off = absurd (true≢false (off refl))
+asks-less a b m n o off = grind (arith, common_steps, true≢false)
 
 asks-none : (a b m o : Bool) → m ≡ false → bond_if (a && (b && m && o)) ≡ 0
-asks-none a b true o off = absurd (true≢false off)
-asks-none false b false o off = refl
-asks-none true false false o off = refl
-asks-none true true false o off = refl
+asks-none a b m o off = grind (arith, common_steps, true≢false)
 
 -- a challenge that was made is there
 push-there : (challenges : List Challenge) (new : Challenge)
     → is_none (challenge_at new.block (challenges ++ new ∷ [])) ≡ false
 push-there [] new = ap (λ (b : Bool). is_none (if b then Some new else None)) (eq-eqb new.block new.block refl)
-push-there (first ∷ rest) new =
-    elim (first.block == new.block) as (λ b. is_none
-    (if b then Some first else challenge_at new.block (rest ++ new ∷ [])) ≡ false) [
-      | true ↦ refl
-      | false ↦ push-there rest new
-    ]
+push-there (first ∷ rest) new = grind (arith, common_steps, push-there rest new)
 
 module _ (log : List RootCall) (c e : ℕ) where
   challenged-less : (x : Exit) (new : Challenge) → is_some (challenge_at new.block x.challenges) ≡ false
       → asks log c e (with_challenge new x) ≤ asks log c e x
-  challenged-less x new none =
-      subst (λ (b : Bool). asks log c e (if b then x else record x { challenges = x.challenges ++ new ∷ [] })
-      ≤ asks log c e x) (sym none)
-      (asks-less (x.coin == c) (nat_lt e x.parent) (is_none (challenge_at e (x.challenges ++ new ∷ [])))
-      (is_none (challenge_at e x.challenges)) (not (is_over log x.start CHALLENGE_WINDOW))
-      (λ off. is_none-push e x.challenges new off))
+  challenged-less x new none = grind (arith, common_steps, asks-less, is_none-push)
 
   challenged-none : (x : Exit) (new : Challenge) → is_some (challenge_at new.block x.challenges) ≡ false
       → new.block ≡ e → asks log c e (with_challenge new x) ≡ 0
-  challenged-none x new none at =
-      subst (λ (b : Bool). asks log c e (if b then x else record x { challenges = x.challenges ++ new ∷ [] })
-      ≡ 0) (sym none)
-      (asks-none (x.coin == c) (nat_lt e x.parent) (is_none (challenge_at e (x.challenges ++ new ∷ [])))
-      (not (is_over log x.start CHALLENGE_WINDOW))
-      (subst (λ n. is_none (challenge_at n (x.challenges ++ new ∷ [])) ≡ false) at (push-there x.challenges new)))
+  challenged-none x new none at = grind (arith, common_steps, asks-none, push-there)
 
 -- a challenge at another block leaves who is challenged at this one
 push-same : (b : ℕ) (challenges : List Challenge) (new : Challenge) → (new.block == b) ≡ false
     → challenge_at b (challenges ++ new ∷ []) ≡ challenge_at b challenges
-push-same b challenges new apart =
-    challenge_at-push b challenges new
-    ∙ ap (λ (t : Bool). option_or (challenge_at b challenges) (if t then Some new else None)) apart
-    ∙ option_or-none (challenge_at b challenges)
+push-same b challenges new apart = grind (arith, common_steps, challenge_at-push, option_or-none)
 
 -- so what the exit asks elsewhere stays
 asks-same : (log : List RootCall) (k e : ℕ) (x : Exit) (new : Challenge)
     → is_some (challenge_at new.block x.challenges) ≡ false → ((x.coin == k) && (new.block == e)) ≡ false
     → asks log k e (with_challenge new x) ≡ asks log k e x
-asks-same log k e x new none apart =
-    subst (λ (b : Bool). asks log k e (if b then x else record x { challenges = x.challenges ++ new ∷ [] })
-    ≡ asks log k e x) (sym none)
-    (elim (cases_Bool (x.coin == k)) [
-      | inl own ↦ ap (λ o. bond_if ((x.coin == k)
-          && (nat_lt e x.parent && is_none o && not (is_over log x.start CHALLENGE_WINDOW))))
-          (push-same e x.challenges new (and-off (x.coin == k) (new.block == e) apart own))
-      | inr other ↦
-          ap (λ b. bond_if (b && (nat_lt e x.parent && is_none (challenge_at e (x.challenges ++ new ∷ []))
-          && not (is_over log x.start CHALLENGE_WINDOW)))) other
-          ∙ sym (ap (λ b. bond_if (b && needs_before log e x)) other)
-    ])
+asks-same log k e x new none apart = grind (arith, common_steps, cases_Bool, push-same, and-off)
 
 -- ---- one Before
 
@@ -142,15 +101,7 @@ pub record Could (tests : Tests) (rules : Rules) (log : List RootCall) (c f : �
 -- what is shown comes before the exit's parent
 before-parent : (log : List RootCall) (made : Option CoinView) (exit : Exit) (shown : Shown)
     → is_before_parent log made exit shown ≡ true → block_of shown < exit.parent
-before-parent log None exit shown is = absurd (false≢true is)
-before-parent log (Some coin) exit (AtDeposit block) is =
-    let parts = and_parts (block == coin.deposit) (nat_lt coin.deposit exit.parent) is in
-    let at = eqb-true block coin.deposit parts.0 in
-    let low = ltb-true coin.deposit exit.parent parts.1 in omega (arith, at, low)
-before-parent log (Some coin) exit (Spend opening) is =
-    ltb-true opening.block exit.parent
-    (and_parts (is_some (root_at log opening.block) && nat_lt coin.deposit opening.block)
-    (nat_lt opening.block exit.parent) is).1
+before-parent log made exit shown is = grind (arith, common_steps, false≢true, and_parts, eqb-true, ltb-true)
 
 -- so the exit asks for it
 pub could-asks : (tests : Tests) (rules : Rules) (log : List RootCall) (c f : ℕ) (shown : Shown)
@@ -230,16 +181,17 @@ module _ (log : List RootCall) (by c f : ℕ) (shown : Shown) (x : Exit) (stands
   unfolding reserve_of AreApart
   all-at-most-one [] apart = omega arith
   all-at-most-one (tip ∷ tips) apart =
-      elim (cases_Bool (is_at_tip c (block_of shown) tip)) [
-        | inl here ↦
-            let parts = and_parts (tip.coin == c) (tip.block == block_of shown) here in
-            let rest : list_any (is_at_tip c (block_of shown)) tips ≡ false =
-            subst (λ n. list_any (is_at_tip n (block_of shown)) tips ≡ false) (eqb-true tip.coin c parts.0)
-            (subst (λ m. list_any (is_at_tip tip.coin m) tips ≡ false)
-            (eqb-true tip.block (block_of shown) parts.1) apart.0) in
-            omega (arith, at-most-one tip.coin tip.block, all-stay tips rest)
-        | inr other ↦ omega (arith, stays tip other, all-at-most-one tips apart.1)
-      ]
+      grind (
+        arith,
+        common_steps,
+        all-at-most-one tips apart.1,
+        cases_Bool,
+        and_parts,
+        eqb-true,
+        at-most-one,
+        all-stay,
+        stays,
+      )
 
   one-less : asks log c (block_of shown) x ≡ CHALLENGE_BOND
       → reserve (Before by c f shown ∷ log) c (block_of shown) + CHALLENGE_BOND ≤ reserve log c (block_of shown)
@@ -264,14 +216,7 @@ module _ (log : List RootCall) (by c f : ℕ) (shown : Shown) (x : Exit) (stands
   all-less asked (tip ∷ tips) is =
       elim (or_cases (is_at_tip c (block_of shown) tip) (list_any (is_at_tip c (block_of shown)) tips) is) [
         | inl here ↦
-            let parts = and_parts (tip.coin == c) (tip.block == block_of shown) here in
-            let less : reserve (Before by c f shown ∷ log) tip.coin tip.block + CHALLENGE_BOND
-            ≤ reserve log tip.coin tip.block =
-            subst (λ n. reserve (Before by c f shown ∷ log) n tip.block + CHALLENGE_BOND ≤ reserve log n tip.block)
-            (sym (eqb-true tip.coin c parts.0))
-            (subst (λ m. reserve (Before by c f shown ∷ log) c m + CHALLENGE_BOND ≤ reserve log c m)
-            (sym (eqb-true tip.block (block_of shown) parts.1)) (one-less asked)) in
-            omega (arith, less, all-no-more tips)
+            grind (arith, common_steps, and_parts, eqb-true, one-less, all-no-more)
         | inr later ↦ omega (arith, no-more tip.coin tip.block, all-less asked tips later)
       ]
 
@@ -279,10 +224,7 @@ module _ (log : List RootCall) (by c f : ℕ) (shown : Shown) (x : Exit) (stands
 pub taken : (log : List RootCall) (by c f : ℕ) (shown : Shown) → CHALLENGE_BOND ≤ balance_of log by
     → balance_of (Before by c f shown ∷ log) by + CHALLENGE_BOND ≡ balance_of log by
 unfolding balance_of pays takes share_of
-taken log by c f shown covered =
-    let own : (if by == by then CHALLENGE_BOND else 0) ≡ CHALLENGE_BOND =
-    ap (λ b. if b then CHALLENGE_BOND else 0) (eq-eqb by by refl) in
-    omega (arith, own, covered)
+taken log by c f shown covered = grind (arith, common_steps, eq-eqb)
 
 -- ---- no less suffices
 
@@ -312,22 +254,14 @@ reserve_is_needed tests rules log account tips calls = needed tests rules calls 
 -- a challenge at another block isn't the new one
 push-other : (b : ℕ) (challenges : List Challenge) (new : Challenge) → challenge_at b challenges ≡ None
     → (new.block == b) ≡ false → challenge_at b (challenges ++ new ∷ []) ≡ None
-push-other b challenges new none apart =
-    challenge_at-push b challenges new
-    ∙ ap (λ o. option_or o (if new.block == b then Some new else None)) none
-    ∙ ap (λ (t : Bool). option_or None (if t then Some new else None)) apart
+push-other b challenges new none apart = grind (arith, common_steps, challenge_at-push)
 
 -- what comes before the parent does so after a Before
 before-same : (log : List RootCall) (by c f : ℕ) (shown offered : Shown) (made : Option CoinView) (one other : Exit)
     → one.parent ≡ other.parent → is_before_parent log made one offered ≡ true
     → is_before_parent (Before by c f shown ∷ log) made other offered ≡ true
 unfolding block_at
-before-same log by c f shown offered None one other same is = absurd (false≢true is)
-before-same log by c f shown (AtDeposit block) (Some coin) one other same is =
-    ap (λ p. (block == coin.deposit) && nat_lt coin.deposit p) (sym same) ∙ is
-before-same log by c f shown (Spend opening) (Some coin) one other same is =
-    ap (λ p. is_some (root_at log opening.block) && nat_lt coin.deposit opening.block && nat_lt opening.block p)
-    (sym same) ∙ is
+before-same log by c f shown offered made one other same is = grind (arith, common_steps, false≢true)
 
 module _ (tests : Tests) (rules : Rules) (log : List RootCall) (by c f : ℕ) (shown : Shown) (x : Exit)
     (stands : exit_at log c f ≡ Some x) (none : challenge_at (block_of shown) x.challenges ≡ None)
@@ -343,49 +277,14 @@ module _ (tests : Tests) (rules : Rules) (log : List RootCall) (by c f : ℕ) (s
 
   other-could : ((c == k) && (f == g)) ≡ false → Could tests rules (Before by c f shown ∷ log) k g offered
   unfolding now coin_at block_at shown_tx
-  other-could other = record {
-    exit = could.exit;
-    stands = found-after
-        ∙ ap (λ (b : Bool). if b then option_map (with_challenge (new_challenge log by c f shown)) (exit_at log k g)
-        else exit_at log k g) other
-        ∙ could.stands;
-    in_time = could.in_time;
-    before = could.before;
-    owner = could.owner;
-    owner_shown = could.owner_shown;
-    none_there = could.none_there;
-  }
+  other-could other = grind (arith, common_steps, found-after)
 
   same-could : ((c == k) && (f == g)) ≡ true → (block_of shown == block_of offered) ≡ false
       → Could tests rules (Before by c f shown ∷ log) k g offered
   unfolding now coin_at block_at shown_tx
   same-could own apart =
-      let parts = and_parts (c == k) (f == g) own in
-      let here : exit_at log k g ≡ Some x = subst (λ n. exit_at log n g ≡ Some x) (eqb-true c k parts.0)
-      (subst (λ m. exit_at log c m ≡ Some x) (eqb-true f g parts.1) stands) in
-      let same : could.exit ≡ x = some_same could.exit x (sym could.stands ∙ here) in
-      let new : Challenge = new_challenge log by c f shown in
-      let pushed : Exit = record x { challenges = x.challenges ++ new ∷ [] } in
-      let is : with_challenge new x ≡ pushed = ap (λ (b : Bool). if b then x else pushed) (ap is_some none) in
-      record {
-        exit = pushed;
-        stands = found-after
-            ∙ ap (λ (b : Bool). if b then option_map (with_challenge new) (exit_at log k g) else exit_at log k g) own
-            ∙ ap (option_map (with_challenge new)) here ∙ ap (λ (y : Exit). Some y) is;
-        in_time = subst (λ (y : Exit). now log < y.start + CHALLENGE_WINDOW) same could.in_time;
-        before = before-same log by c f shown offered (coin_at log k) could.exit pushed
-            (ap (λ (y : Exit). y.parent) same) could.before;
-        owner = could.owner;
-        owner_shown = could.owner_shown;
-        none_there = push-other (block_of offered) x.challenges new
-            (subst (λ (y : Exit). challenge_at (block_of offered) y.challenges ≡ None) same could.none_there) apart;
-      }
+      grind (arith, common_steps, and_parts, eqb-true, some_same, found-after, before-same, push-other)
 
   pub could-after : ((c == k) && (f == g) && (block_of shown == block_of offered)) ≡ false
       → Could tests rules (Before by c f shown ∷ log) k g offered
-  could-after apart =
-      elim (cases_Bool ((c == k) && (f == g))) [
-        | inl own ↦ same-could own
-            (sym (ap (λ (b : Bool). b && (block_of shown == block_of offered)) own) ∙ apart)
-        | inr other ↦ other-could other
-      ]
+  could-after apart = grind (arith, common_steps, cases_Bool, same-could, other-could)

@@ -1,10 +1,10 @@
 -- The openings and signatures of the worked lists: what they show, and that they are valid.
 use Rattle.std.proofs.Common.{◌≡◌, ℕ, ◌^◌, ◌<◌, ◌==◌, ◌&&◌, Bool, true, false, if◌then◌else◌, nat_lt, List, length, Option, Some, None, Ok, refl, sym, ap, ◌∙◌, subst, arith}
-use Rattle.std.specs.Option.{option_and_then}
 use Rattle.std.specs.Str.{bytes_eq}
 use Rattle.std.proofs.lemmas.Bool.{and_parts, and_from, eqb-true, eq-eqb}
 use Rattle.std.proofs.lemmas.List.{length-append}
 use Rattle.std.proofs.lemmas.Slice.Eq.{bytes_eq-Decides}
+use Rattle.std.proofs.lemmas.Grind.{common_steps}
 use Rattle.lms_sign.specs.declared.types.LmsTypes.{LmsTypes}
 use Rattle.lms_sign.specs.Types.{height, chains, u32_at, is_supported, leaf_count}
 use Rattle.lms_sign.specs.Valid.{types_of, id_of, key_root, type_place, is_valid, is_formed, candidate_root}
@@ -12,8 +12,8 @@ use Rattle.lms_sign.specs.Tree.{public_key_of, signature_of}
 use Rattle.lms_sign.proofs.Laws.{key-types, signatures_are_valid}
 use Rattle.lms_sign.proofs.Nodes.{length-tree_node}
 use Rattle.lms_sign.proofs.Lists.{length-u32str}
-use Rattle.sparse_merkle.specs.MaskedPath.{set_bits, lowest_default, proof_path}
-use Rattle.sparse_merkle.specs.Opening.{is_opening, digest_at_level}
+use Rattle.sparse_merkle.specs.MaskedPath.{set_bits, lowest_default}
+use Rattle.sparse_merkle.specs.Opening.{is_opening}
 use Rattle.sparse_merkle.proofs.ProofLaws.{length-proof_path}
 use Rattle.plasma_tx.specs.declared.body.Body.{Body}
 use Rattle.plasma_tx.specs.declared.signed_tx.SignedTx.{SignedTx}
@@ -53,10 +53,7 @@ formed body =
     (key_root stranger.key)) (valid body)).0
 
 second : (a b c d e : Bool) → (a && b && c && d && e) ≡ true → b ≡ true
-second true true c d e is = refl
-second true false c d e is = is
-second false true c d e is = refl
-second false false c d e is = is
+second a b c d e is = grind (arith, common_steps)
 
 pub signature_long : (body : Body) → length (signature_of secret 0 (body_text body)) ≡ 1292
 unfolding height chains
@@ -124,23 +121,11 @@ transfer_shown block tx h =
 pub opened : (block : ℕ) (tx : SignedTx) → IsWorked tx
     → opens_root digest (root_with tx.body.coin tx) tx.body.coin (opening_in digest (shows block tx)) ≡ true
 unfolding is_opening
-opened block tx h =
-    let path : List (List ℕ) = proof_path digest alone in
-    ap (opens_root digest (root_with tx.body.coin tx) tx.body.coin) (read digest block tx h)
-    ∙ and_from (length path == 64)
-    (bytes_eq (digest_at_level digest tx.body.coin (signed_text tx) path 64) (root_with tx.body.coin tx))
-    (eq-eqb (length path) 64 (length-proof_path digest alone))
-    ((bytes_eq-Decides (root_with tx.body.coin tx) (root_with tx.body.coin tx)).1 refl)
+opened block tx h = grind (arith, common_steps, read, and_from, eq-eqb, length-proof_path, bytes_eq-Decides)
 
 -- the opening shows the transfer, where its block has that root
 pub shown : (log : List RootCall) (block : ℕ) (tx : SignedTx) → IsWorked tx
     → root_at log block ≡ Some (root_with tx.body.coin tx)
     → shown_tx (tests_by digest) rules log tx.body.coin (shows block tx) ≡ Some tx
 unfolding shown_tx shows
-shown log block tx h root =
-    let c : ℕ = tx.body.coin in
-    ap (option_and_then (λ (r : List ℕ). if opens_root digest r c (opening_in digest (shows block tx))
-    then transfer_in tag c block (leaf_in (shows block tx).bytes)
-    else None)) root
-    ∙ ap (λ b. if b then transfer_in tag c block (leaf_in (shows block tx).bytes) else None) (opened block tx h)
-    ∙ transfer_shown block tx h
+shown log block tx h root = grind (arith, common_steps, opened, transfer_shown)

@@ -1,5 +1,5 @@
 -- Sums over exits: an exit is started, taken out or changed.
-use Rattle.std.proofs.Common.{◌≡◌, ℕ, ◌+◌, ◌≤◌, cond, not, true, false, if◌then◌else◌, List, [], ◌∷◌, ◌++◌, Some, None, refl, ap, find, arith}
+use Rattle.std.proofs.Common.{◌≡◌, ℕ, ◌+◌, ◌≤◌, cond, not, true, false, if◌then◌else◌, List, [], ◌∷◌, ◌++◌, Some, None, ap, find, arith}
 use Rattle.std.specs.Prelude.{is_some}
 use Rattle.plasma_tx.specs.declared.call.RootCall.{RootCall}
 use Rattle.plasma_tx.specs.Views.{Exit, is_exit, without_exit, with_exit_changed, exits, exit_at}
@@ -75,9 +75,3 @@ module _ (of : Exit → ℕ) where
       → sum_over of (with_exit_changed c e change (exits log)) + of t ≡ sum_over of (exits log) + of (change t)
   unfolding exit_at
   changed log c e change t there = over-changed c e change (exits log) t (exits-distinct log c e) there
-
--- each exit gives as much by one as by the other
-pub over-same : (of by : Exit → ℕ) (xs : List Exit) → ((x : Exit) → of x ≡ by x) → sum_over of xs ≡ sum_over by xs
-unfolding sum_over
-over-same of by [] same = refl
-over-same of by (x ∷ xs) same = omega (arith, same x, over-same of by xs same)

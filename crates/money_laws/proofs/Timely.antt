@@ -1,16 +1,14 @@
 -- A held coin is safe while none of its exits comes too late.
-use Rattle.std.proofs.Common.{◌≡◌, ℕ, ◌+◌, ◌≤◌, ◌==◌, ◌&&◌, not, Bool, true, false, if◌then◌else◌, List, [], ◌∷◌, Option, Some, None, inl, inr, refl, sym, ap, ◌∙◌, subst, arith}
+use Rattle.std.proofs.Common.{◌≡◌, ℕ, ◌+◌, ◌≤◌, ◌==◌, ◌&&◌, not, Bool, true, false, if◌then◌else◌, List, [], ◌∷◌, Option, Some, None, inl, inr, refl, sym, ap, ◌∙◌, subst, arith, rules}
 use Rattle.std.specs.Prelude.{is_none, nat_lt, nat_le}
-use Rattle.std.specs.Option.{option_map_or}
 use Rattle.std.specs.List.{AllByRecursion, list_any, list_all}
 use Rattle.std.proofs.lemmas.Bool.{cases_Bool, eqb-true, eq-eqb, le-ltb, le-leb, ltb-false, leb-true, and_parts, and_from, and_right, not-true, not_from_false, true≢false, false_from_ne_true}
+use Rattle.std.proofs.lemmas.Grind.{common_steps}
 use Rattle.plasma_tx.specs.declared.owner.Owner.{Owner}
 use Rattle.plasma_tx.specs.declared.opening.RawOpening.{RawOpening}
 use Rattle.plasma_tx.specs.declared.call.RootCall.{RootCall}
 use Rattle.plasma_tx.specs.declared.call.RootCall.TheVariants.{After, Between, Finish}
 use Rattle.plasma_tx.specs.declared.answer.Answer.{Answer}
-use Rattle.plasma_tx.specs.declared.answer.Answer.TheVariants.{Paid, Dropped, Refused}
-use Rattle.plasma_tx.specs.declared.answer.Refusal.TheVariants.{Early}
 use Rattle.plasma_tx.specs.Views.{now, Challenge, Exit, exits, exit_at, challenge_at, is_withdrawn}
 use Rattle.plasma_tx.specs.declared.rules.TheConstants.{RESPONSE_WINDOW, EXIT_PERIOD}
 use Rattle.plasma_tx.specs.Shown.{Tests, Rules, tests_by, rules_of}
@@ -46,14 +44,7 @@ finish_answer log c found = where_exit found (λ exit. decided (finish_causes lo
 -- it is Paid where the exit's period is over and the exit payable
 finish-paid : (log : List RootCall) (c : ℕ) (x : Exit)
     → is_paid (finish_answer log c (Some x)) ≡ (not (nat_lt (now log) (x.start + EXIT_PERIOD)) && is_payable log c x)
-finish-paid log c x = by_cases (nat_lt (now log) (x.start + EXIT_PERIOD)) (is_payable log c x)
-  where
-    by_cases : (early payable : Bool)
-        → is_paid (if early then Refused (Early (x.start + EXIT_PERIOD)) else (if payable then Paid else Dropped))
-        ≡ (not early && payable)
-    by_cases true payable = refl
-    by_cases false true = refl
-    by_cases false false = refl
+finish-paid log c x = grind (arith, common_steps)
 
 -- none of the exits of the coin is late
 abbrev pub NoneLate : ℕ → Owner → ℕ → List RootCall → Type 0
@@ -210,26 +201,10 @@ module _ (tests : Tests) (rules : Rules) (signs : SignsBy tests) (events : List 
       → finish_harms at.hold.me e (now (log_of events)) (finish_answer (log_of events) k o) o ≡ false
   finish-harmless k f c_is None found = refl
   finish-harmless k f c_is (Some x) found =
-      let place = found-has (log_of events) k f x found in
-      let coin_is : x.coin ≡ c = place.1 ∙ c_is in
-      elim (cases_Bool (is_mine at.hold.me x)) [
-        | inl own ↦ subst (λ (b : Bool). (if b then (x.block == e)
-            && nat_le (x.start + EXIT_PERIOD) (now (log_of events))
-            && not (is_paid (finish_answer (log_of events) k (Some x)))
-            else is_paid (finish_answer (log_of events) k (Some x))) ≡ false) (sym own)
-            (false_from_ne_true _ (own-paid k x c_is place.0 coin_is own))
-        | inr other ↦ subst (λ (b : Bool). (if b then (x.block == e)
-            && nat_le (x.start + EXIT_PERIOD) (now (log_of events))
-            && not (is_paid (finish_answer (log_of events) k (Some x)))
-            else is_paid (finish_answer (log_of events) k (Some x))) ≡ false) (sym other)
-            (false_from_ne_true _ (others-unpaid k x place.0 coin_is other))
-      ]
+      grind (arith, common_steps, found-has, cases_Bool, false_from_ne_true, own-paid, others-unpaid)
 
   four-false : (a b d g : Bool) → (a ≡ true → b ≡ true → g ≡ true → ⊥) → (a && b && d && g) ≡ false
-  four-false a b d g never = false_from_ne_true (a && b && d && g) (λ is.
-      let whole = and_parts (a && b && d) g is in
-      let most = and_parts (a && b) d whole.0 in
-      let first = and_parts a b most.0 in never first.0 first.1 whole.1)
+  four-false a b d g never = grind (arith, common_steps, false_from_ne_true, and_parts)
 
   off-by : (x z : Bool) → (x ≡ true → z ≡ false) → (x && z) ≡ false
   off-by true z h = h refl
@@ -258,17 +233,7 @@ module _ (tests : Tests) (rules : Rules) (signs : SignsBy tests) (events : List 
   pub refused-harmless : (call : RootCall) → is_accepted (answer_to tests rules (log_of events) call) ≡ false
       → call_harms tests rules (log_of events) at.hold.me c e call ≡ false
   unfolding call_harms answer_to
-  refused-harmless (After account k f spend) off =
-      four-false (k == c) (f == e) (is_own at.hold.me (exit_at (log_of events) k f))
-      (is_accepted (answer_to tests rules (log_of events) (After account k f spend)))
-      (λ same tip is. true≢false (sym is ∙ off))
-  refused-harmless (Between account k f spend) off =
-      four-false (k == c) (f == e) (is_own at.hold.me (exit_at (log_of events) k f))
-      (is_accepted (answer_to tests rules (log_of events) (Between account k f spend)))
-      (λ same tip is. true≢false (sym is ∙ off))
-  refused-harmless (Finish account k f) off =
-      off-by (k == c) _ (λ same. finish-harmless k f (eqb-true k c same) (exit_at (log_of events) k f) refl)
-  refused-harmless call off = refl
+  refused-harmless call off = grind (arith, common_steps, four-false, true≢false, off-by, finish-harmless, eqb-true)
 
 -- ---- at each event
 
@@ -281,16 +246,7 @@ in-time-parts event events w c e is =
 
 none-late : (events : List Event) (w c e : ℕ) (h : Holding events w c e) → holds events w c e ≡ true
     → goes_late events w c e ≡ false → NoneLate c h.me e (log_of events)
-none-late events w c e h held off x there coin_is =
-    and-off (x.coin == c) (is_late h.me e (now (log_of events)) x)
-    (any-none (λ exit. (exit.coin == c) && is_late h.me e (now (log_of events)) exit) (exits (log_of events)) x
-    (sym (ap (λ o. option_map_or
-    (λ me. list_any (λ exit. (exit.coin == c) && is_late me e (now (log_of events)) exit) (exits (log_of events)))
-    o false) h.me_is)
-    ∙ and-off (holds events w c e) (option_map_or
-    (λ me. list_any (λ exit. (exit.coin == c) && is_late me e (now (log_of events)) exit) (exits (log_of events)))
-    (wallet_owner events w) false) off held) there)
-    (eq-eqb x.coin c coin_is)
+none-late events w c e h held off x there coin_is = grind (arith, common_steps, and-off, any-none, eq-eqb)
 
 module _ (dig : List ℕ → List ℕ) (digest : IsDigest dig) (rules : Rules) (w c e : ℕ) where
   harmless : (event : Event) (events : List Event) → IsLegal (tests_by dig) rules (event ∷ events)

@@ -1,14 +1,14 @@
 -- No challenge at the tip of a coin that a wallet keeps is answered.
-use Rattle.std.proofs.Common.{◌≡◌, ℕ, ◌&&◌, not, Bool, true, false, if◌then◌else◌, List, [], ◌∷◌, ◌++◌, Option, Some, None, inl, inr, refl, sym, ap, ◌∙◌, subst}
+use Rattle.std.proofs.Common.{◌≡◌, ℕ, true, false, List, [], ◌∷◌, ◌++◌, inl, inr, refl, sym, ap, ◌∙◌, subst, arith, rules}
 use Rattle.std.specs.Prelude.{is_some}
 use Rattle.std.specs.List.{AllByRecursion}
-use Rattle.plasma_tx.specs.declared.owner.Owner.{Owner}
+use Rattle.std.proofs.lemmas.Grind.{common_steps}
 use Rattle.plasma_tx.specs.declared.opening.RawOpening.{RawOpening}
 use Rattle.plasma_tx.specs.declared.call.Shown.{Shown}
 use Rattle.plasma_tx.specs.declared.call.RootCall.{RootCall}
 use Rattle.plasma_tx.specs.declared.call.RootCall.TheVariants.{Before, Respond}
 use Rattle.plasma_tx.specs.Laws.{is_challenged_at}
-use Rattle.plasma_tx.specs.Views.{Challenge, Exit, exits, block_of, challenge_at, with_challenge, with_answer, new_challenge, is_withdrawn}
+use Rattle.plasma_tx.specs.Views.{Challenge, Exit, exits, block_of, challenge_at, with_challenge, with_answer, new_challenge}
 use Rattle.plasma_tx.specs.Shown.{Tests, Rules, tests_by, rules_of}
 use Rattle.plasma_tx.specs.Table.{answer_to, is_accepted}
 use Rattle.plasma_tx.specs.Accepted.{Challenges, Responds}
@@ -20,11 +20,11 @@ use Rattle.watch_duty.specs.Laws.{openings_of_call}
 use Rattle.watch_duty.proofs.Members.{Has, all-has, contains-has}
 use Rattle.schedule_text.specs.declared.line.Line.{Line}
 use Rattle.world_rules.specs.Laws.{IsDigest}
-use Rattle.world_rules.specs.Events.{Event, Joins, log_of, wallet_owner, accepted, bound_by, signed_away_by}
+use Rattle.world_rules.specs.Events.{Event, Joins, log_of, wallet_owner, bound_by}
 use Rattle.world_rules.specs.World.{World}
 use Rattle.world_rules.specs.Steps.{Run, events_of}
 use Rattle.world_rules.specs.Exhibits.{openings_of, seen, strings_of, has_clash, collides, forges_one, is_forged}
-use Rattle.world_rules.specs.Safety.{holds_with, holds}
+use Rattle.world_rules.specs.Safety.{holds}
 use Rattle.world_laws.specs.Headline.{IsRun}
 use Rattle.world_laws.specs.Legal.{IsLegal}
 use Rattle.world_laws.proofs.Lists.{some_same, all-from, all-changed, all-answered, found-has, challenge-has}
@@ -35,19 +35,12 @@ use Rattle.world_laws.proofs.CoinEvents.{runs-legal}
 use Rattle.world_laws.proofs.Promises.{suffix-legal}
 use Rattle.world_laws.proofs.Steps.{of_held, own-openings}
 use Rattle.world_laws.proofs.Watched.{IsSpend, is_spend}
-use Rattle.money_laws.specs.Keepers.{keeps_with, keeps, HoldersKeep, LegalTipsAreNotAnswered, LegalTipsStayOpen, TipsStayOpen, TipsAreNotAnswered}
+use Rattle.money_laws.specs.Keepers.{keeps, HoldersKeep, LegalTipsAreNotAnswered, LegalTipsStayOpen, TipsStayOpen, TipsAreNotAnswered}
 use Rattle.money_laws.proofs.Keeping.{Keeping, keeping, KeptBefore, kept_before, AtTip, at_tip, keeper-owns, tip-kept}
 
 pub holders_keep : HoldersKeep
 unfolding holds keeps
-holders_keep events w c e = by_owner (wallet_owner events w)
-  where
-    by_owner : (o : Option Owner)
-        → holds_with (log_of events) o (signed_away_by events w) (accepted events w) c e
-        ≡ (keeps_with (log_of events) o (signed_away_by events w) (accepted events w) c e
-        && not (is_withdrawn (log_of events) c))
-    by_owner None = refl
-    by_owner (Some me) = refl
+holders_keep events w c e = grind (arith, common_steps)
 
 -- the challenges of the exit at e are open, where it is of coin c
 abbrev pub IsOpenAt : ℕ → ℕ → Exit → Type 0
@@ -58,11 +51,7 @@ AllOpenAt c e xs = AllByRecursion (IsOpenAt c e) xs
 
 pushed-open : (c e : ℕ) (x : Exit) (new : Challenge) → is_some (challenge_at new.block x.challenges) ≡ false
     → new.answered ≡ false → IsOpenAt c e x → IsOpenAt c e (with_challenge new x)
-pushed-open c e x new none unanswered was =
-    subst (λ (b : Bool). IsOpenAt c e (if b then x else record x { challenges = x.challenges ++ new ∷ [] }))
-    (sym none)
-    (λ c_is. all-append (λ (ch : Challenge). ch.block ≡ e → ch.answered ≡ false) x.challenges new (was c_is)
-    (λ _. unanswered))
+pushed-open c e x new none unanswered was = grind (arith, common_steps, all-append)
 
 module _ (tests : Tests) (rules : Rules) (signs : SignsBy tests) (events : List Event) (w c e : ℕ)
     (legal : IsLegal tests rules events) (more : List RawOpening) (at : AtTip tests rules events w c e more) where
