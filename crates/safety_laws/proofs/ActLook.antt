@@ -1,9 +1,10 @@
 -- What a look shows whose word is Act: till the last moment for the first call nothing goes wrong.
-use Rattle.std.proofs.Common.{◌-◌, ◌≡◌, ◌⊎◌, ℕ, ◌+◌, ◌<◌, ◌≤◌, ◌==◌, ◌&&◌, cond, true, false, if◌then◌else◌, List, [], ◌∷◌, map, Option, Some, None, option_map, inl, inr, refl, sym, ap, ◌∙◌, subst, arith, find, filter}
-use Rattle.std.specs.Prelude.{is_none, is_some}
+use Rattle.std.proofs.Common.{◌-◌, ◌≡◌, ◌⊎◌, ℕ, ◌+◌, ◌<◌, ◌≤◌, ◌==◌, List, [], ◌∷◌, map, Option, Some, None, option_map, inl, inr, refl, sym, ap, ◌∙◌, subst, arith, find, filter, rules}
+use Rattle.std.specs.Prelude.{is_none}
 use Rattle.std.specs.Option.{option_map_or}
 use Rattle.std.specs.List.{Contains}
 use Rattle.std.proofs.lemmas.Bool.{cases_Bool, cases_eq, ne_eqb, eq-eqb, eqb-true, and_from}
+use Rattle.std.proofs.lemmas.Grind.{common_steps}
 use Rattle.plasma_tx.specs.declared.owner.Owner.{Owner}
 use Rattle.plasma_tx.specs.declared.call.RootCall.{RootCall}
 use Rattle.plasma_tx.specs.declared.call.RootCall.TheVariants.{Respond}
@@ -15,7 +16,7 @@ use Rattle.plasma_tx.specs.Shown.{Rules, tests_by}
 use Rattle.plasma_tx.proofs.RuleNames.{exits-distinct, is_at, challenged-once}
 use Rattle.watch_duty.specs.Duty.{due_for, due_of}
 use Rattle.watch_duty.proofs.Members.{Has, has-contains, has-filter, has-map, only-found}
-use Rattle.watch_duty.proofs.Dues.{IsDue, DueAfter, DueBetween, DueBefore, DueRespond, due_for-due}
+use Rattle.watch_duty.proofs.Dues.{IsDue, due_for-due}
 use Rattle.world_rules.specs.Laws.{IsDigest}
 use Rattle.world_rules.specs.Events.{Event, log_of}
 use Rattle.world_laws.specs.Legal.{IsLegal}
@@ -32,26 +33,12 @@ use Rattle.safety_laws.proofs.AtLook.{has-flat, standing-has, ahead-window, ahea
 found-in : (c b : ℕ) (xs : List Exit) → option_map exit_view (find (is_exit c b) xs)
     ≡ find (λ (view : ExitView). view.block == b) (map exit_view (filter (λ (x : Exit). x.coin == c) xs))
 found-in c b [] = refl
-found-in c b (x ∷ xs) =
-    elim (x.coin == c) as (λ k. option_map exit_view (if k && (x.block == b) then Some x else find (is_exit c b) xs)
-    ≡ find (λ (view : ExitView). view.block == b)
-    (map exit_view (cond k (x ∷ filter (λ (y : Exit). y.coin == c) xs) (filter (λ (y : Exit). y.coin == c) xs)))) [
-      | true ↦ elim (x.block == b) as (λ k. option_map exit_view (if k then Some x else find (is_exit c b) xs)
-          ≡ (if k then Some (exit_view x) else find (λ (view : ExitView). view.block == b)
-          (map exit_view (filter (λ (y : Exit). y.coin == c) xs)))) [ true ↦ refl | false ↦ found-in c b xs ]
-      | false ↦ found-in c b xs
-    ]
+found-in c b (x ∷ xs) = grind (arith, common_steps, found-in c b xs)
 
 found-mapped : (b : ℕ) (xs : List Challenge) → option_map challenge_view (find (is_at b) xs)
     ≡ find (λ (view : ChallengeView). view.block == b) (map challenge_view xs)
 found-mapped b [] = refl
-found-mapped b (x ∷ xs) =
-    elim (x.block == b) as (λ k. option_map challenge_view (if k then Some x else find (is_at b) xs)
-    ≡ (if k then Some (challenge_view x) else find (λ (view : ChallengeView). view.block == b)
-    (map challenge_view xs))) [
-      | true ↦ refl
-      | false ↦ found-mapped b xs
-    ]
+found-mapped b (x ∷ xs) = grind (arith, common_steps, found-mapped b xs, is_at)
 
 pub stands-there : (log : List RootCall) (c : ℕ) (x : Exit) → Has (exits log) x → x.coin ≡ c
     → exit_at log c x.block ≡ Some x
@@ -86,10 +73,7 @@ pub record IsSeenExit (log : List RootCall) (c : ℕ) (v : ExitView) : Type 0 wh
 
 pub seen-exit : (log : List RootCall) (c : ℕ) (v : ExitView) → Has (exits_of log c) v → IsSeenExit log c v
 unfolding exits_of
-seen-exit log c v h =
-    let r = has-map exit_view (filter (λ (x : Exit). x.coin == c) (exits log)) v h in
-    let k = has-filter (λ (x : Exit). x.coin == c) (exits log) r.0 r.1 in
-    record { x = r.0; there = k.0; c_is = eqb-true r.0.coin c k.1; view_is = r.2 }
+seen-exit log c v h = grind (arith, common_steps, has-map, has-filter, eqb-true)
 
 -- ---- the ends of calls
 
@@ -114,29 +98,14 @@ module _ (dig : List ℕ → List ℕ) (digest : IsDigest dig) (rules : Rules) (
 
   due-ends : (call : RootCall) → Has (due_of (log_of events) account (record { links = kept.links })) call
       → first ≤ end_of_call (standing (log_of events) kept) call
-  due-ends call has =
-      calls call (has-contains (due (log_of events) account kept) call (subst (λ (l : List RootCall). Has l call)
-      (sym (ap (λ o. if is_some o then [] else due_of (log_of events) account (record { links = kept.links })) unsent))
-      has))
+  due-ends call has = grind (arith, common_steps, has-contains)
 
   -- a call is due for an exit that isn't of the tip: it may be entered while the exit's window is open
   exit-ends : (x : Exit) → Has (exits (log_of events)) x → x.coin ≡ kept.links.coin → (call : RootCall)
       → IsDue (log_of events) account kept.links (exit_view x) call
       → first ≤ end_of_call (standing (log_of events) kept) call
       → (by < x.start + CHALLENGE_WINDOW) ⊎ (x.block ≡ tip kept)
-  exit-ends x there c_is call (DueAfter link next early same) less =
-      inl (window-less first by by_is (exit_in (standing (log_of events) kept) x.block) x
-      (exit-found (log_of events) kept x there c_is)
-      (subst (λ k. first ≤ end_of_call (standing (log_of events) kept) k) (sym same) less))
-  exit-ends x there c_is call (DueBetween link above next early same) less =
-      inl (window-less first by by_is (exit_in (standing (log_of events) kept) x.block) x
-      (exit-found (log_of events) kept x there c_is)
-      (subst (λ k. first ≤ end_of_call (standing (log_of events) kept) k) (sym same) less))
-  exit-ends x there c_is call (DueBefore above free early same) less =
-      inl (window-less first by by_is (exit_in (standing (log_of events) kept) x.block) x
-      (exit-found (log_of events) kept x there c_is)
-      (subst (λ k. first ≤ end_of_call (standing (log_of events) kept) k) (sym same) less))
-  exit-ends x there c_is call (DueRespond ch link at_tip has still next early same) less = inr at_tip
+  exit-ends x there c_is call h4 less = grind (arith, common_steps, window-less, exit-found)
 
   answer-less : (x : Exit) → Has (exits (log_of events)) x → x.coin ≡ kept.links.coin → (ch : Challenge)
       → Has x.challenges ch

@@ -1,20 +1,17 @@
 -- The calls that are advised are accepted, over legal events.
-use Rattle.std.proofs.Common.{◌≡◌, ℕ, List, ◌++◌, Option, Some, None, inl, inr, refl, sym, ap, ◌∙◌, subst}
+use Rattle.std.proofs.Common.{ℕ, List, ◌++◌, sym, ap, ◌∙◌, subst, arith, rules}
+use Rattle.std.proofs.lemmas.Grind.{common_steps}
 use Rattle.plasma_tx.specs.declared.opening.RawOpening.{RawOpening}
-use Rattle.plasma_tx.specs.declared.links.Link.{Link}
-use Rattle.plasma_tx.specs.Links.{last_spend}
 use Rattle.plasma_tx.specs.Shown.{Tests, tests_by, root_at}
 use Rattle.coin_history.specs.History.{IsHistory}
 use Rattle.watch_duty.specs.Laws.{HaveOneLeaf}
 use Rattle.watch_duty.proofs.Members.{Has, has-cases, contains-has}
 use Rattle.watch_duty.proofs.Shown.{seen as log_seen}
-use Rattle.node_rules.specs.Wallet.{start_by as leaving_by}
 use Rattle.world_rules.specs.Events.{Event, log_of}
 use Rattle.world_rules.specs.Exhibits.{seen, collides}
 use Rattle.world_laws.proofs.Clash.{HasOneLeaf, one_leaf}
 use Rattle.world_laws.proofs.Shown.{legal-log, log-seen}
 use Rattle.coin_safety.proofs.Accepting.{acts_are_accepted as acts_taken}
-use Rattle.coin_safety.specs.Advice.{start_by}
 use Rattle.safety_laws.specs.Calls.{LegalActsAreAccepted, StartsAreLeaves}
 use Rattle.safety_laws.proofs.AtLook.{keeps_it}
 
@@ -29,10 +26,7 @@ leaves-of tests events c os one has a b root in_a in_b same committed opens_a op
     (record { root = root; root_is = ap (root_at (log_of events)) (sym same) ∙ committed; opens = opens_b }) same
   where
     place : (o : RawOpening) → Has (log_seen (log_of events) c ++ os) o → Has (seen events c) o
-    place o h = elim (has-cases (log_seen (log_of events) c) os o h) [
-      | inl of_log ↦ log-seen events c o of_log
-      | inr of_os ↦ has o of_os
-    ]
+    place o h = grind (arith, common_steps, has-cases, log_seen, log-seen)
 
 pub acts_are_accepted : LegalActsAreAccepted
 unfolding collides
@@ -46,8 +40,4 @@ acts_are_accepted dig rules events n account kept call digest legal by among non
     (subst (λ c. HasOneLeaf tests (log_of events) c (seen events c)) (sym k.coin_is) one) k.is.is_seen) among rich
 
 pub starts_are_leaves : StartsAreLeaves
-starts_are_leaves account at links = by (last_spend links)
-  where
-    by : (o : Option Link) → start_by account at links o ≡ leaving_by account at links o
-    by None = refl
-    by (Some link) = refl
+starts_are_leaves account at links = grind (arith, common_steps)

@@ -1,8 +1,8 @@
 -- A wallet comes to hold a coin in time, and for as long as after a look no exit of it comes too late.
-use Rattle.std.proofs.Common.{◌≡◌, ℕ, not, false, List, [], ◌∷◌, ◌++◌, inl, inr, sym, ap, ◌∙◌, arith}
-use Rattle.std.specs.List.{list_any}
+use Rattle.std.proofs.Common.{◌≡◌, ℕ, not, false, List, [], ◌∷◌, ◌++◌, inl, inr, sym, ◌∙◌, arith, rules}
 use Rattle.std.proofs.Math.Nat.{le_refl}
 use Rattle.std.proofs.lemmas.Bool.{and_from, not_from_false, true≢false}
+use Rattle.std.proofs.lemmas.Grind.{common_steps}
 use Rattle.plasma_tx.specs.Views.{now}
 use Rattle.plasma_tx.specs.Shown.{Tests, Rules}
 use Rattle.world_rules.specs.Events.{Event, log_of, wallet_owner}
@@ -12,7 +12,7 @@ use Rattle.world_laws.proofs.Before.{NoneStands, HeldBefore, held_before}
 use Rattle.world_laws.proofs.Bound.{Holding, holding}
 use Rattle.world_laws.proofs.Guards.{holds-from}
 use Rattle.money_laws.specs.MoneyLaws.{goes_late, is_in_time}
-use Rattle.safety_laws.specs.Look.{begins_own, AreShort}
+use Rattle.safety_laws.specs.Look.{AreShort}
 use Rattle.safety_laws.specs.Safe.{LegalHoldersBeginInTime}
 use Rattle.safety_laws.proofs.AtLook.{StandsTill}
 use Rattle.safety_laws.proofs.Since.{legal-look}
@@ -46,18 +46,10 @@ holders_begin_in_time tests rules later event events w c e legal unheld held sho
   where
     stands : (h : Holding (event ∷ events) w c e) → NoneStands (log_of (event ∷ events)) c → (end : ℕ)
         → StandsTill (event ∷ events) c e h.me end
-    stands h none end = record {
-      others = λ y there c_is other. absurd (none y there c_is);
-      tips = λ y there c_is at_tip mine ch has still. absurd (none y there c_is);
-    }
+    stands h none end = grind (arith, common_steps)
 
     goes : (h : Holding (event ∷ events) w c e) → NoneStands (log_of (event ∷ events)) c
         → AreShort (wallet_owner (event ∷ events) w) c e later (event ∷ events)
         → GoesTill later (event ∷ events) h.me c e (now (log_of (later ++ (event ∷ events))))
     goes h none (inl less) = inl less
-    goes h none (inr s) =
-        inr (
-          s.2,
-          (λ y there own. absurd (none y there own.0)),
-          ap (λ o. list_any (begins_own o c e) later) (sym h.me_is) ∙ s.1,
-        )
+    goes h none (inr s) = grind (arith, common_steps)

@@ -1,22 +1,18 @@
 -- What the words Paid and Gone say of legal events.
-use Rattle.std.proofs.Common.{◌≡◌, ◌≢◌, ℕ, ◌+◌, ◌==◌, ◌&&◌, not, Bool, true, false, if◌then◌else◌, List, [], ◌∷◌, ◌++◌, Option, Some, None, refl, sym, ap, ◌∙◌, subst}
-use Rattle.std.specs.Prelude.{nat_le}
+use Rattle.std.proofs.Common.{◌≡◌, ◌≢◌, ℕ, ◌==◌, ◌&&◌, not, true, false, List, [], ◌∷◌, ◌++◌, Some, refl, sym, ap, ◌∙◌, subst, arith, rules}
 use Rattle.std.proofs.lemmas.Bool.{eq-eqb, ne_eqb, and_from, and_right, or_left, or_right, not_from_true, not_from_false}
+use Rattle.std.proofs.lemmas.Grind.{common_steps}
 use Rattle.plasma_tx.specs.declared.owner.Owner.{Owner}
-use Rattle.plasma_tx.specs.declared.body.Body.{Body}
 use Rattle.plasma_tx.specs.declared.call.RootCall.{RootCall}
 use Rattle.plasma_tx.specs.declared.call.RootCall.TheVariants.{Finish}
 use Rattle.plasma_tx.specs.declared.answer.Answer.TheVariants.{Paid as IsPaid}
-use Rattle.plasma_tx.specs.declared.rules.TheConstants.{EXIT_PERIOD}
-use Rattle.plasma_tx.specs.RuleLaws.{is_paid}
-use Rattle.plasma_tx.specs.Views.{now, Exit, exit_at, has_no_open_challenge, is_withdrawn}
+use Rattle.plasma_tx.specs.Views.{Exit, exit_at, has_no_open_challenge, is_withdrawn}
 use Rattle.plasma_tx.specs.Shown.{Tests, Rules}
 use Rattle.plasma_tx.specs.Table.{answer_to}
 use Rattle.plasma_tx.proofs.Accepted.{accepted_calls_show}
 use Rattle.plasma_tx.proofs.Ends.{paid_exactly}
-use Rattle.coin_history.specs.declared.bundle.Bundle.{Bundle}
-use Rattle.world_rules.specs.Events.{Event, Joins, log_of, wallet_owner, accepted, signed_away_by}
-use Rattle.world_rules.specs.Safety.{holds_with, holds, finish_harms, call_harms, harms, is_harmed}
+use Rattle.world_rules.specs.Events.{Event, Joins, log_of, wallet_owner}
+use Rattle.world_rules.specs.Safety.{holds, call_harms, is_harmed}
 use Rattle.world_laws.specs.Legal.{IsLegal}
 use Rattle.coin_safety.specs.declared.word.Word.TheVariants.{Paid, Gone}
 use Rattle.coin_safety.specs.Advice.{holder}
@@ -73,9 +69,7 @@ entered (event ∷ events) newer call older is = pushed event events call older 
 withdrawn-on : (call : RootCall) (log : List RootCall) (c : ℕ) → is_withdrawn log c ≡ true
     → is_withdrawn (call ∷ log) c ≡ true
 unfolding is_withdrawn
-withdrawn-on (Finish account k f) log c is =
-    or_right ((k == c) && has_no_open_challenge (exit_at log k f)) (is_withdrawn log c) is
-withdrawn-on call log c is = is
+withdrawn-on call log c is = grind (arith, common_steps, or_right)
 
 withdrawn-by : (newer older : List RootCall) (by c block : ℕ)
     → has_no_open_challenge (exit_at older c block) ≡ true
@@ -89,13 +83,7 @@ withdrawn-by (call ∷ newer) older by c block none =
 
 out-unheld : (events : List Event) (w c e : ℕ) → is_withdrawn (log_of events) c ≡ true → holds events w c e ≡ false
 unfolding holds
-out-unheld events w c e out =
-    by_owner (wallet_owner events w) (signed_away_by events w) (accepted events w)
-  where
-    by_owner : (o : Option Owner) (bodies : List Body) (bundles : List Bundle)
-        → holds_with (log_of events) o bodies bundles c e ≡ false
-    by_owner None bodies bundles = refl
-    by_owner (Some me) bodies bundles = and_right _ _ (not_from_true (is_withdrawn (log_of events) c) out)
+out-unheld events w c e out = grind (arith, common_steps, and_right, not_from_true)
 
 -- ---- it was paid
 
@@ -114,16 +102,7 @@ pays-harm : (tests : Tests) (rules : Rules) (events : List Event) (by c block ac
     → holds events w c e ≡ true → is_harmed tests rules events w c e (Joins (Finish by c block)) ≡ true
 unfolding call_harms
 pays-harm tests rules events by c block account exit stands whose paid w e me me_is apart held =
-    and_from (holds events w c e)
-    (harms tests rules (log_of events) (wallet_owner events w) c e (Joins (Finish by c block))) held
-    (ap (λ o. harms tests rules (log_of events) o c e (Joins (Finish by c block))) me_is
-    ∙ and_from (c == c) (finish_harms me e (now (log_of events))
-    (answer_to tests rules (log_of events) (Finish by c block)) (exit_at (log_of events) c block)) (eq-eqb c c refl)
-    (ap (λ a. finish_harms me e (now (log_of events)) a (exit_at (log_of events) c block)) paid
-    ∙ ap (finish_harms me e (now (log_of events)) IsPaid) stands
-    ∙ ap (λ (b : Bool). if b then (exit.block == e) && nat_le (exit.start + EXIT_PERIOD) (now (log_of events))
-    && not (is_paid IsPaid) else is_paid IsPaid)
-    (ne_eqb exit.account me.account (λ same. apart (sym same ∙ whose)))))
+    grind (arith, common_steps, and_from, eq-eqb, ne_eqb)
 
 told-paid : (tests : Tests) (rules : Rules) (events : List Event) (c account line : ℕ) → IsLegal tests rules events
     → IsPaidOut (log_of events) c account line → IsTold tests rules events c account line

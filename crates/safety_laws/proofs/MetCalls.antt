@@ -1,8 +1,9 @@
 -- What stands where the calls that were due at a look were met.
-use Rattle.std.proofs.Common.{◌≡◌, ◌⊎◌, ℕ, ◌+◌, ◌<◌, ◌==◌, ◌||◌, not, true, false, if◌then◌else◌, List, [], ◌++◌, Some, None, inl, inr, sym, ap, ◌∙◌, subst, arith}
-use Rattle.std.specs.Prelude.{is_some, is_none}
+use Rattle.std.proofs.Common.{◌≡◌, ◌⊎◌, ℕ, ◌+◌, ◌<◌, ◌==◌, true, false, List, ◌++◌, Some, None, inl, inr, sym, ap, ◌∙◌, subst, arith, rules}
+use Rattle.std.specs.Prelude.{is_none}
 use Rattle.std.specs.List.{list_any}
 use Rattle.std.proofs.lemmas.Bool.{cases_Bool, ne_eqb, eq-eqb, true≢false}
+use Rattle.std.proofs.lemmas.Grind.{common_steps}
 use Rattle.plasma_tx.specs.declared.owner.Owner.{Owner}
 use Rattle.plasma_tx.specs.declared.call.RootCall.{RootCall}
 use Rattle.plasma_tx.specs.declared.call.RootCall.TheVariants.{After, Between, Before, Respond}
@@ -37,12 +38,7 @@ module _ (dig : List ℕ → List ℕ) (digest : IsDigest dig) (rules : Rules) (
   -- a call that was due was met
   met-one : (call : RootCall) → Has (due_of (log_of events) account (record { links = kept.links })) call
       → list_any (fulfils call) (log_of within) ≡ true
-  met-one call has =
-      passes-has (λ (o : RootCall). not true || list_any (fulfils o) (log_of within))
-      (due (log_of events) account kept) call met
-      (subst (λ (l : List RootCall). Has l call)
-      (sym (ap (λ o. if is_some o then [] else due_of (log_of events) account (record { links = kept.links })) unsent))
-      has)
+  met-one call has = grind (arith, common_steps, passes-has)
 
   module _ (y : Exit) (c_is : y.coin ≡ c) (o : IsOld (log_of within) events y) where
     own : o.y.coin ≡ kept.links.coin
@@ -113,9 +109,7 @@ module _ (dig : List ℕ → List ℕ) (digest : IsDigest dig) (rules : Rules) (
         (log_of within)
         (met-one (Respond account kept.links.coin o.y.block old.old.block found.0.opening) found.1)) [
           | inl ended ↦ not-ended ended
-          | inr answered ↦ true≢false (sym answered
-              ∙ (λ i. list_any (is_respond ((look.coin_is ∙ sym c_is) i) (o.block i) (old.block i)) (log_of within))
-              ∙ old.unanswered)
+          | inr answered ↦ grind (arith, common_steps, true≢false)
         ]
 
   -- so nothing goes wrong after that
@@ -151,13 +145,7 @@ module _ (dig : List ℕ → List ℕ) (digest : IsDigest dig) (rules : Rules) (
           → end < ch.at + RESPONSE_WINDOW
       tip-stands (inl less) y there c_is at_tip mine ch has still =
           elim (from-look (tests_by dig) rules events within legal y there) [
-            | inl o ↦ elim (o.opened ch has still) [
-              | inl recent ↦ omega (arith, recent, less)
-              | inr old ↦ absurd (old-answered y c_is o at_tip ch old)
-            ]
+            | inl o ↦ grind (arith, common_steps, old-answered)
             | inr b ↦ omega (arith, b.opened ch has still, less)
           ]
-      tip-stands (inr r) y there c_is at_tip mine ch has still =
-          let s = own-shut (tests_by dig) rules events within Me c e legal r.2 r.1 y there (c_is, mine, at_tip) ch has
-          still in
-          absurd (old-answered y c_is s.0 at_tip ch s.1)
+      tip-stands (inr r) y there c_is at_tip mine ch has still = grind (arith, common_steps, own-shut, old-answered)

@@ -1,8 +1,9 @@
 -- The next look isn't too late.
-use Rattle.std.proofs.Common.{◌≡◌, ℕ, ◌+◌, ◌<◌, ◌≤◌, ◌==◌, ◌||◌, not, Bool, true, false, if◌then◌else◌, List, [], ◌∷◌, ◌++◌, map, Some, inl, inr, refl, sym, ap, ◌∙◌, subst, arith, filter, find}
+use Rattle.std.proofs.Common.{◌≡◌, ℕ, ◌+◌, ◌<◌, ◌≤◌, ◌==◌, ◌||◌, Bool, true, false, if◌then◌else◌, List, [], ◌∷◌, ◌++◌, map, Some, inl, inr, refl, sym, ap, ◌∙◌, subst, arith, find, rules}
 use Rattle.std.specs.Prelude.{is_none}
 use Rattle.std.specs.List.{list_any, Contains}
 use Rattle.std.proofs.lemmas.Bool.{cases_Bool, eq-eqb, eqb-true, not-true, true≢false}
+use Rattle.std.proofs.lemmas.Grind.{common_steps}
 use Rattle.plasma_tx.specs.declared.owner.Owner.{Owner}
 use Rattle.plasma_tx.specs.declared.call.RootCall.{RootCall}
 use Rattle.plasma_tx.specs.declared.views.ChallengeView.{ChallengeView}
@@ -63,40 +64,12 @@ module _ (log : List RootCall) (kept : Kept) (c e : ℕ) (clock : ℕ) (c_is : k
     → ch.answered ≡ false → clock < ch.at + RESPONSE_WINDOW) where
   answer-ahead : (x : Exit) → Has (exits log) x → x.coin ≡ c → x.block ≡ e → (end : ℕ)
       → Has (answer_ends (map challenge_view x.challenges)) end → clock < end
-  answer-ahead x there own at_tip end has =
-      let r = has-map (λ (v : ChallengeView). after v.at RESPONSE_WINDOW)
-      (filter (λ (v : ChallengeView). not v.answered) (map challenge_view x.challenges)) end has in
-      let k = has-filter (λ (v : ChallengeView). not v.answered) (map challenge_view x.challenges) r.0 r.1 in
-      let m = has-map challenge_view x.challenges r.0 k.0 in
-      let still : m.0.answered ≡ false =
-      ap (λ (v : ChallengeView). v.answered) m.2 ∙ not-true r.0.answered k.1 in
-      let less = after-more m.0.at RESPONSE_WINDOW clock (answers x there own at_tip m.0 m.1 still) small in
-      subst (λ z. clock < z) (ap (λ (v : ChallengeView). after v.at RESPONSE_WINDOW) m.2 ∙ r.2) less
+  answer-ahead x there own at_tip end has = grind (arith, common_steps, has-map, has-filter, not-true, after-more)
 
   exit-ahead : (x : Exit) → Has (exits log) x → x.coin ≡ c → (end : ℕ) → Has (ends_of e (exit_view x)) end
       → clock < end
   exit-ahead x there own end =
-      (elim (x.block == e) as (λ b. (x.block == e) ≡ b
-      → Has (if b then answer_ends (map challenge_view x.challenges)
-      else if is_challenged e (map challenge_view x.challenges) then []
-      else after x.start CHALLENGE_WINDOW ∷ []) end → clock < end) [
-        | true ↦ λ at_tip has. answer-ahead x there own (eqb-true x.block e at_tip) end has
-        | false ↦ λ apart has. elim (cases_Bool (is_none (challenge_at e x.challenges))) [
-          | inr some ↦ absurd (subst (λ (b : Bool). Has (if b then [] else after x.start CHALLENGE_WINDOW ∷ []) end)
-              (view-challenged e x some) has)
-          | inl free ↦ window x there own apart free end
-              (is_challenged e (map challenge_view x.challenges)) has
-        ]
-      ]) refl
-    where
-      window : (x : Exit) → Has (exits log) x → x.coin ≡ c → (x.block == e) ≡ false
-          → is_none (challenge_at e x.challenges) ≡ true → (end : ℕ) (b : Bool)
-          → Has (if b then [] else after x.start CHALLENGE_WINDOW ∷ []) end → clock < end
-      window x there own apart free end true has = absurd has
-      window x there own apart free end false (inl same) =
-          subst (λ z. clock < z) same
-          (after-more x.start CHALLENGE_WINDOW clock (windows x there own apart free) small)
-      window x there own apart free end false (inr none) = absurd none
+      grind (arith, common_steps, answer-ahead, eqb-true, cases_Bool, view-challenged, after-more)
 
   all-ahead : (end : ℕ) → Contains (ends log kept) end → clock < end
   all-ahead end among =

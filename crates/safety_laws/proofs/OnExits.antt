@@ -1,6 +1,7 @@
 -- The exit that a call is on.
-use Rattle.std.proofs.Common.{◌≡◌, ℕ, ◌==◌, ◌&&◌, ◌||◌, Bool, true, false, List, [], ◌∷◌, inl, refl, sym, ◌∙◌}
+use Rattle.std.proofs.Common.{◌≡◌, ℕ, ◌==◌, ◌&&◌, ◌||◌, Bool, true, false, List, [], ◌∷◌, refl, sym, ◌∙◌, arith}
 use Rattle.std.proofs.lemmas.Bool.{eqb-true, and_parts, true≢false, false≢true, false_from_ne_true}
+use Rattle.std.proofs.lemmas.Grind.{common_steps}
 use Rattle.plasma_tx.specs.declared.call.RootCall.{RootCall}
 use Rattle.plasma_tx.specs.declared.call.RootCall.TheVariants.{StartDeposit, StartSpend, After, Between, Before, Respond, Finish}
 use Rattle.plasma_tx.specs.declared.views.ChallengeView.{ChallengeView}
@@ -55,25 +56,11 @@ other-exit k f c g apart =
     false_from_ne_true ((k == c) && (f == g)) (λ is. apart (eqb-true f g (and_parts (k == c) (f == g) is).1))
 
 pub of-other : (new : RootCall) (c g : ℕ) → is_move new ≡ true → (block_on new ≡ g → ⊥) → is_of_exit c g new ≡ false
-of-other (StartDeposit account k f) c g move apart = other-exit k f c g apart
-of-other (StartSpend account k parent exit) c g move apart = other-exit k exit.block c g apart
-of-other (After account k f spend) c g move apart = other-exit k f c g apart
-of-other (Between account k f spend) c g move apart = other-exit k f c g apart
-of-other (Before account k f shown) c g move apart = other-exit k f c g apart
-of-other (Respond account k f n spend) c g move apart = other-exit k f c g apart
-of-other (Finish account k f) c g move apart = other-exit k f c g apart
-of-other new c g move apart = absurd (false≢true move)
+of-other new c g move apart = grind (arith, common_steps, other-exit, false≢true)
 
 apart-exits : (new call : RootCall) → is_move new ≡ true → is_move call ≡ true → is_start call ≡ false
     → (block_on new ≡ block_on call → ⊥) → Apart new call
-apart-exits new (StartDeposit account c g) move too none apart = absurd (true≢false none)
-apart-exits new (StartSpend account c parent exit) move too none apart = absurd (true≢false none)
-apart-exits new (After account c g spend) move too none apart = of-other new c g move apart
-apart-exits new (Between account c g spend) move too none apart = of-other new c g move apart
-apart-exits new (Before account c g shown) move too none apart = of-other new c g move apart
-apart-exits new (Respond account c g n spend) move too none apart = inl (of-other new c g move apart)
-apart-exits new (Finish account c g) move too none apart = inl (of-other new c g move apart)
-apart-exits new call move too none apart = absurd (false≢true too)
+apart-exits new call move too none apart = grind (arith, common_steps, true≢false, of-other, false≢true)
 
 pub apart-at : (account one other : ℕ) (new call : RootCall) → MovesAt account one new → MovesAt account other call
     → is_start call ≡ false → (one ≡ other → ⊥) → Apart new call
@@ -83,8 +70,4 @@ apart-at account one other new call a b none apart =
 -- before a start no exit is finished
 pub before-start : (account one other : ℕ) (new call : RootCall) → MovesAt account one new → is_finish new ≡ false
     → MovesAt account other call → is_start call ≡ true → (one ≡ other → ⊥) → Apart new call
-before-start account one other new (StartDeposit by c g) a unfinished b start apart =
-    (of-other new c g a.move (λ same. apart (sym a.at ∙ same ∙ b.at)), unfinished)
-before-start account one other new (StartSpend by c parent exit) a unfinished b start apart =
-    (of-other new c exit.block a.move (λ same. apart (sym a.at ∙ same ∙ b.at)), unfinished)
-before-start account one other new call a unfinished b start apart = absurd (false≢true start)
+before-start account one other new call a unfinished b start apart = grind (arith, common_steps, of-other, false≢true)

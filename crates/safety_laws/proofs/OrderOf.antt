@@ -1,17 +1,17 @@
 -- Each of the calls that are advised leaves the later ones what they are.
 use Rattle.std.proofs.Common.{◌≡◌, ℕ, ◌+◌, ◌<◌, ◌==◌, ◌&&◌, ◌||◌, not, Bool, true, false, if◌then◌else◌, List, [], ◌∷◌, ◌++◌, map, filter, Option, Some, None, inl, inr, refl, sym, ap, ◌∙◌, subst, arith}
 use Rattle.std.specs.Prelude.{is_some, nat_lt, unwrap_or}
-use Rattle.std.specs.Option.{option_and_then, option_map, option_map_or, option_or}
+use Rattle.std.specs.Option.{option_map, option_map_or, option_or}
 use Rattle.std.specs.List.{flat_map}
 use Rattle.std.proofs.lemmas.Bool.{cases_eq, ne_eqb, eqb-true, eq-eqb, leb-true, and_parts, and_from, not_from_false, true≢false}
+use Rattle.std.proofs.lemmas.Grind.{common_steps}
 use Rattle.plasma_tx.specs.declared.opening.RawOpening.{RawOpening}
 use Rattle.plasma_tx.specs.declared.links.Link.{Link}
-use Rattle.plasma_tx.specs.declared.call.Shown.TheVariants.{Spend}
 use Rattle.plasma_tx.specs.declared.call.RootCall.{RootCall}
 use Rattle.plasma_tx.specs.declared.call.RootCall.TheVariants.{After, Between, Before, Respond, Finish}
 use Rattle.plasma_tx.specs.declared.views.ChallengeView.{ChallengeView}
 use Rattle.plasma_tx.specs.declared.views.ExitView.{ExitView}
-use Rattle.plasma_tx.specs.declared.rules.TheConstants.{CHALLENGE_WINDOW, RESPONSE_WINDOW, EXIT_PERIOD}
+use Rattle.plasma_tx.specs.declared.rules.TheConstants.{CHALLENGE_WINDOW, EXIT_PERIOD}
 use Rattle.plasma_tx.specs.ChallengeLists.{is_challenged}
 use Rattle.plasma_tx.specs.Links.{last_spend, tip_of}
 use Rattle.plasma_tx.specs.Table.{is_over}
@@ -19,9 +19,9 @@ use Rattle.plasma_tx.specs.Views.{now, Challenge, Exit, is_exit, exits, exit_at,
 use Rattle.plasma_tx.proofs.RuleNames.{exits-distinct, is_at, challenged-once}
 use Rattle.watch_duty.specs.Duty.{link_after, tip_shown, within, old_owner, second_spend, planted_parent, answer, answers, due_for, due_of}
 use Rattle.watch_duty.proofs.Members.{Has, has-cases, has-filter, has-map, has-flat_map, only-found}
-use Rattle.watch_duty.proofs.Dues.{IsDue, DueAfter, DueBetween, DueBefore, DueRespond, due_for-due}
+use Rattle.watch_duty.proofs.Dues.{IsDue, due_for-due}
 use Rattle.coin_safety.specs.declared.kept.Kept.{Kept}
-use Rattle.coin_safety.specs.Advice.{standing, tip, answer_shown, is_answered, before_by, again_for, shown_again, may_leave, is_planted, start_by, start_of, own_start, exit_in, earlier_spend, instead, is_to_finish, has_challenged, is_own, finishes, due, timed, calls_of}
+use Rattle.coin_safety.specs.Advice.{standing, tip, before_by, again_for, shown_again, start_of, own_start, exit_in, instead, is_to_finish, has_challenged, is_own, finishes, due, timed, calls_of}
 use Rattle.coin_safety.proofs.Again.{IsAgain, again_for-again, again-in}
 use Rattle.coin_safety.proofs.Starting.{own-in}
 use Rattle.safety_laws.proofs.StillTaken.{is_answer, Apart}
@@ -36,28 +36,11 @@ module _ (log : List RootCall) (account : ℕ) (kept : Kept) where
 
   due-moves : (v : ExitView) (call : RootCall) → IsDue log account kept.links v call
       → MovesWithin account v.block call
-  due-moves v call (DueAfter link next early same) =
-      subst (MovesWithin account v.block) same
-      (record { moves = record { move = refl; at = refl; by = tt }; unstarted = refl; unfinished = refl })
-  due-moves v call (DueBetween link above next early same) =
-      subst (MovesWithin account v.block) same
-      (record { moves = record { move = refl; at = refl; by = tt }; unstarted = refl; unfinished = refl })
-  due-moves v call (DueBefore above free early same) =
-      subst (MovesWithin account v.block) same
-      (record { moves = record { move = refl; at = refl; by = refl }; unstarted = refl; unfinished = refl })
-  due-moves v call (DueRespond ch link at_tip has still next early same) =
-      subst (MovesWithin account v.block) same
-      (record { moves = record { move = refl; at = refl; by = tt }; unstarted = refl; unfinished = refl })
+  due-moves v call h2 = grind (arith, common_steps)
 
   instead-moves : (block : ℕ) (call : RootCall) → MovesWithin account block call
       → MovesWithin account block (instead log C call)
-  instead-moves block (Before by c f shown) m =
-      elim (option_and_then (earlier_spend log C) (exit_in (exits_of log C) f)) as (λ o. MovesWithin account block
-      (option_map_or (λ (spend : RawOpening). Between by c f spend) o (Before by c f shown))) [
-        | Some spend ↦
-            record { moves = record { move = refl; at = m.moves.at; by = tt }; unstarted = refl; unfinished = refl }
-        | None ↦ m
-      ]
+  instead-moves block (Before by c f shown) m = grind (arith, common_steps)
   instead-moves block call m = m
 
   entered-moves : (v : ExitView) (call : RootCall) → Has (due_for log account kept.links v) call
@@ -102,11 +85,7 @@ module _ (log : List RootCall) (account : ℕ) (kept : Kept) where
   Leaves a b = Apart (instead log C a) (instead log C b)
 
   within-pairs : (time window : ℕ) (call : RootCall) → Pairs Leaves (within log time window call)
-  within-pairs time window call =
-      elim (is_over log time window) as (λ (b : Bool). Pairs Leaves (if b then [] else call ∷ [])) [
-        | true ↦ tt
-        | false ↦ (λ y h. absurd h, tt)
-      ]
+  within-pairs time window call = grind (arith, common_steps)
 
   link-pairs : (o : Option Link) (time window : ℕ) (make : Link → RootCall)
       → Pairs Leaves (option_map_or (λ (link : Link). within log time window (make link)) o [])
@@ -114,40 +93,15 @@ module _ (log : List RootCall) (account : ℕ) (kept : Kept) where
   link-pairs (Some link) time window make = within-pairs time window (make link)
 
   answer-pairs : (v : ExitView) (ch : ChallengeView) → Pairs Leaves (answer log account kept.links v ch)
-  answer-pairs v ch =
-      elim ch.answered as (λ (b : Bool). Pairs Leaves (if b then [] else option_map_or
-      (λ (link : Link). within log ch.at RESPONSE_WINDOW (Respond account C v.block ch.block link.opening))
-      (link_after kept.links ch.block) [])) [
-        | true ↦ tt
-        | false ↦ link-pairs (link_after kept.links ch.block) ch.at RESPONSE_WINDOW
-            (λ link. Respond account C v.block ch.block link.opening)
-      ]
+  answer-pairs v ch = grind (arith, common_steps, link-pairs)
 
   within-is : (time window : ℕ) (one call : RootCall) → Has (within log time window one) call → one ≡ call
-  within-is time window one call =
-      elim (is_over log time window) as (λ (b : Bool). Has (if b then [] else one ∷ []) call → one ≡ call) [
-        | true ↦ λ none. absurd none
-        | false ↦ λ there. elim there [ inl same ↦ same | inr none ↦ absurd none ]
-      ]
+  within-is time window one call = grind (arith, common_steps)
 
   -- an answer is of its challenge
   answer-is : (v : ExitView) (ch : ChallengeView) (call : RootCall) → Has (answer log account kept.links v ch) call
       → (spend : RawOpening) × (Respond account C v.block ch.block spend ≡ call)
-  answer-is v ch call =
-      elim ch.answered as (λ (b : Bool). Has (if b then [] else option_map_or
-      (λ (link : Link). within log ch.at RESPONSE_WINDOW (Respond account C v.block ch.block link.opening))
-      (link_after kept.links ch.block) []) call → (spend : RawOpening)
-      × (Respond account C v.block ch.block spend ≡ call)) [
-        | true ↦ λ none. absurd none
-        | false ↦ by_link (link_after kept.links ch.block)
-      ]
-    where
-      by_link : (o : Option Link) → Has (option_map_or
-          (λ (link : Link). within log ch.at RESPONSE_WINDOW (Respond account C v.block ch.block link.opening)) o [])
-          call → (spend : RawOpening) × (Respond account C v.block ch.block spend ≡ call)
-      by_link None none = absurd none
-      by_link (Some link) h =
-          (link.opening, within-is ch.at RESPONSE_WINDOW (Respond account C v.block ch.block link.opening) call h)
+  answer-is v ch call = grind (arith, common_steps, within-is)
 
   answers-pairs : (v : ExitView) → Has (standing log kept) v
       → Pairs Leaves (flat_map (answer log account kept.links v) v.challenges)
@@ -235,41 +189,19 @@ module _ (log : List RootCall) (account : ℕ) (kept : Kept) where
       by-spend : (v : ExitView) (o : Option RawOpening)
           → Pairs Leaves (option_map_or (before_by log account C v) o [])
       by-spend v None = tt
-      by-spend v (Some spend) =
-          elim (nat_lt spend.block v.parent && not (is_challenged spend.block v.challenges)) as (λ (b : Bool).
-          Pairs Leaves (if b then within log v.start CHALLENGE_WINDOW (Before account C v.block (Spend spend))
-          else [])) [
-            | true ↦ within-pairs v.start CHALLENGE_WINDOW (Before account C v.block (Spend spend))
-            | false ↦ tt
-          ]
+      by-spend v (Some spend) = grind (arith, common_steps, within-pairs)
 
       one-again : (v : ExitView) → Pairs Leaves (again_for log account kept v)
-      one-again v =
-          elim (nat_lt (tip kept) v.parent && is_answered (tip kept) v.challenges) as (λ (b : Bool).
-          Pairs Leaves (if b then option_map_or (before_by log account C v)
-          (answer_shown log C (tip kept) v.block) [] else [])) [
-            | true ↦ by-spend v (answer_shown log C (tip kept) v.block)
-            | false ↦ tt
-          ]
+      one-again v = grind (arith, common_steps)
 
   pub due-in : (call : RootCall) → Has (due log account kept) call
       → (v : ExitView) × Has (standing log kept) v × Has (due_for log account kept.links v) call
-  due-in call =
-      elim (is_some kept.sent) as (λ (b : Bool). Has (if b then [] else
-      due_of log account (record { links = kept.links })) call
-      → (v : ExitView) × Has (standing log kept) v × Has (due_for log account kept.links v) call) [
-        | true ↦ λ none. absurd none
-        | false ↦ λ h. has-flat_map (due_for log account kept.links) (standing log kept) call h
-      ]
+  due-in call = grind (arith, common_steps, has-flat_map)
 
   pub finish-in : (call : RootCall) → Has (finishes log account kept) call
       → (v : ExitView) × Has (standing log kept) v × (is_to_finish log account kept v ≡ true)
       × (Finish account C v.block ≡ call)
-  finish-in call h =
-      let r = has-map (λ (v : ExitView). Finish account C v.block)
-      (filter (is_to_finish log account kept) (standing log kept)) call h in
-      let k = has-filter (is_to_finish log account kept) (standing log kept) r.0 r.1 in
-      (r.0, k.0, k.1, r.2)
+  finish-in call h = grind (arith, common_steps, has-map, has-filter)
 
   finish-pairs : Pairs Apart (finishes log account kept)
   finish-pairs =
@@ -282,14 +214,7 @@ module _ (log : List RootCall) (account : ℕ) (kept : Kept) where
   -- what is due for an exit that is to be finished is an answer
   ended-answer : (v : ExitView) (call : RootCall) → IsDue log account kept.links v call
       → is_over log v.start EXIT_PERIOD ≡ true → is_answer (instead log C call) ≡ true
-  ended-answer v call (DueAfter link next early same) over =
-      absurd (omega (arith, early, leb-true (v.start + EXIT_PERIOD) (now log) over))
-  ended-answer v call (DueBetween link above next early same) over =
-      absurd (omega (arith, early, leb-true (v.start + EXIT_PERIOD) (now log) over))
-  ended-answer v call (DueBefore above free early same) over =
-      absurd (omega (arith, early, leb-true (v.start + EXIT_PERIOD) (now log) over))
-  ended-answer v call (DueRespond ch link at_tip has still next early same) over =
-      subst (λ (z : RootCall). is_answer (instead log C z) ≡ true) same refl
+  ended-answer v call h2 over = grind (arith, common_steps, leb-true, is_answer)
 
   -- what is timed, of its exit: for one that is to be finished it is an answer
   timed-in : (call : RootCall) → Has (timed log account kept) call
@@ -298,9 +223,7 @@ module _ (log : List RootCall) (account : ℕ) (kept : Kept) where
   timed-in call h =
       elim (has-cases (due log account kept) (shown_again log account kept) call h) [
         | inl own ↦
-            let d = due-in call own in
-            let is = due_for-due log account kept.links d.0 call d.2 in
-            (d.0, d.1, entered-moves d.0 call d.2, ended-answer d.0 call is)
+            grind (arith, common_steps, due-in, due_for-due, entered-moves, ended-answer)
         | inr again ↦
             let r = again-in log account kept call again in (
               r.0,
@@ -341,13 +264,7 @@ module _ (log : List RootCall) (account : ℕ) (kept : Kept) where
 
   start-is : (at_link : (link : Link) → last_spend kept.links ≡ Some link → link.opening.block ≡ tip kept)
       → MovesAt account (tip kept) Start × (is_start Start ≡ true)
-  start-is at_link = by (last_spend kept.links) refl
-    where
-      by : (o : Option Link) → last_spend kept.links ≡ o
-          → MovesAt account (tip kept) (start_by account (tip kept) kept.links o)
-          × (is_start (start_by account (tip kept) kept.links o) ≡ true)
-      by None none = (record { move = refl; at = refl; by = refl }, refl)
-      by (Some link) some = (record { move = refl; at = at_link link some; by = refl }, refl)
+  start-is at_link = grind (arith, common_steps, is_start)
 
   missed : (vs : List ExitView) (block : ℕ) → exit_in vs block ≡ None → (v : ExitView) → Has vs v → v.block ≡ block
       → ⊥
@@ -374,12 +291,7 @@ module _ (log : List RootCall) (account : ℕ) (kept : Kept) where
       }
 
   own-pairs : Pairs Apart (own_start log account kept)
-  own-pairs =
-      elim (may_leave log account kept && (is_planted log kept || kept.hidden)) as (λ (b : Bool).
-      Pairs Apart (if b then Start ∷ [] else [])) [
-        | true ↦ (λ y h. absurd h, tt)
-        | false ↦ tt
-      ]
+  own-pairs = grind (arith, common_steps)
 
   -- ---- where blocks are after their parents, and the links end at the tip
 
@@ -389,14 +301,7 @@ module _ (log : List RootCall) (account : ℕ) (kept : Kept) where
     -- nothing is due for an exit where something is shown again
     not-both : (v : ExitView) (a b : RootCall) → Has (standing log kept) v → IsDue log account kept.links v a
         → IsAgain log account kept v b → ⊥
-    not-both v a b there (DueAfter link next early same) again =
-        absurd (cc (sym next ∙ ended v.block (omega (arith, again.above, after_parent v there again.above))))
-    not-both v a b there (DueBetween link above next early same) again =
-        absurd (cc (sym next ∙ ended v.parent again.above))
-    not-both v a b there (DueBefore above free early same) again =
-        true≢false (sym (answered-challenged (tip kept) v.challenges again.answered) ∙ free)
-    not-both v a b there (DueRespond ch link at_tip has still next early same) again =
-        absurd (omega (arith, again.above, after_parent v there again.above, at_tip))
+    not-both v a b there h4 again = grind (arith, common_steps, true≢false, answered-challenged)
 
     across-again : (a b : RootCall) → Has (due log account kept) a → Has (shown_again log account kept) b → Leaves a b
     across-again a b ha hb =
@@ -432,10 +337,7 @@ module _ (log : List RootCall) (account : ℕ) (kept : Kept) where
         (λ a b ha hb. elim (has-cases calls (own_start log account kept) a ha) [
           | inl first ↦ across a b first hb
           | inr start ↦
-              let o = own-is at_link a start in
-              let f = finish-in b hb in
-              subst (Apart a) f.3 (inl (of-other a C f.0.block o.moves.move
-              (λ same. o.free f.0 f.1 (sym same ∙ o.moves.at))))
+              grind (arith, common_steps, own-is, finish-in, of-other)
         ])
 
     pub calls-move : (call : RootCall) → Has (calls_of log account kept) call
@@ -446,9 +348,7 @@ module _ (log : List RootCall) (account : ℕ) (kept : Kept) where
           | inl front ↦ elim (has-cases (map (instead log C) (timed log account kept)) (own_start log account kept) call
               front) [
                 | inl first ↦
-                    let m = has-map (instead log C) (timed log account kept) call first in
-                    let d = timed-in m.0 m.1 in
-                    (d.0.block, subst (MovesAt account d.0.block) m.2 d.2.moves)
+                    grind (arith, common_steps, has-map, first, timed-in)
                 | inr start ↦ (tip kept, (own-is at_link call start).moves)
               ]
           | inr last ↦

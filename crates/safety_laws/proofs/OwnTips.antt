@@ -1,17 +1,18 @@
 -- A wallet's own exit of a coin that it holds is at the tip.
-use Rattle.std.proofs.Common.{◌≡◌, ◌⊎◌, ℕ, ◌==◌, Bool, true, false, if◌then◌else◌, List, [], ◌∷◌, Some, inl, inr, refl, sym, ap, ◌∙◌, arith}
+use Rattle.std.proofs.Common.{◌≡◌, ℕ, ◌==◌, true, false, if◌then◌else◌, List, [], ◌∷◌, Some, inl, inr, refl, sym, ◌∙◌, arith, rules}
 use Rattle.std.specs.List.{list_any}
 use Rattle.std.proofs.lemmas.Bool.{or_cases, or_left, or_right}
+use Rattle.std.proofs.lemmas.Grind.{common_steps}
 use Rattle.plasma_tx.specs.declared.owner.Owner.{Owner}
 use Rattle.plasma_tx.specs.declared.call.RootCall.{RootCall}
 use Rattle.plasma_tx.specs.Views.{coin_at, Exit, exits}
 use Rattle.plasma_tx.specs.Shown.{Tests, Rules}
 use Rattle.watch_duty.proofs.Members.{Has, all-has, contains-has}
 use Rattle.node_replies.specs.Orders.{exit_block}
-use Rattle.world_rules.specs.Events.{Event, Declares, Joins, Leaves, log_of, coin_of_call, wallet_owner, accepted, is_bundle}
+use Rattle.world_rules.specs.Events.{Event, Declares, Joins, log_of, coin_of_call, wallet_owner, accepted, is_bundle}
 use Rattle.world_rules.specs.Exhibits.{seen, is_forged}
 use Rattle.world_rules.specs.Safety.{was_deposited, is_mine}
-use Rattle.world_laws.specs.Legal.{starts_by, left_by, is_left, is_tip, IsLegal}
+use Rattle.world_laws.specs.Legal.{left_by, is_left, is_tip, IsLegal}
 use Rattle.world_laws.proofs.Lists.{some_same}
 use Rattle.world_laws.proofs.Clash.{HasOneLeaf}
 use Rattle.world_laws.proofs.Bound.{SignsBy, Holding}
@@ -29,20 +30,10 @@ record WasLeft (events : List Event) (w c e : ℕ) : Type 0 where
 left-has : (event : Event) (events : List Event) (w : ℕ) (call : RootCall) → Has (left_by events w) call
     → Has (left_by (event ∷ events) w) call
 unfolding left_by
-left-has (Leaves v made) events w call h = either (v == w)
-  where
-    either : (b : Bool) → Has (if b then made ∷ left_by events w else left_by events w) call
-    either true = inr h
-    either false = h
-left-has event events w call h = h
+left-has event events w call h = grind (arith, common_steps)
 
 left-on : (event : Event) (events : List Event) (w c e : ℕ) → WasLeft events w c e → WasLeft (event ∷ events) w c e
-left-on event events w c e l = record {
-  call = l.call;
-  has = left-has event events w l.call l.has;
-  coin_is = l.coin_is;
-  block_is = l.block_is;
-}
+left-on event events w c e l = grind (arith, common_steps, left-has)
 
 module _ (tests : Tests) (rules : Rules) (w c e : ℕ) where
   -- the wallet left with each own exit
@@ -53,11 +44,7 @@ module _ (tests : Tests) (rules : Rules) (w c e : ℕ) where
   was-left (Declares v other ∷ events) legal me me_is x there own =
       (elim (v == w) as (λ b. (v == w) ≡ b → (if b then Some other else wallet_owner events w) ≡ Some me
       → WasLeft (Declares v other ∷ events) w c e) [
-        | true ↦ λ same mine.
-            let owner = some_same other me mine in
-            absurd (undeclared-none tests rules w c e events me x
-            (ap (λ (o : Owner). list_any (starts_by o.account) (log_of events)) (sym owner) ∙ legal.0.no_start)
-            there own.1)
+        | true ↦ grind (arith, common_steps, some_same, undeclared-none)
         | false ↦ λ apart mine. left-on (Declares v other) events w c e
             (was-left events legal.1 me mine x there own)
       ]) refl me_is
@@ -66,23 +53,13 @@ module _ (tests : Tests) (rules : Rules) (w c e : ℕ) where
       (elim (all-has (IfOwn (log_of events) me c e call) (exits (call ∷ log_of events)) x
       (came-from tests rules (log_of events) me c e call legal.0.accepted) there own) [
         | inl r ↦ was-left events legal.1 me me_is r.0 r.1 r.2
-        | inr s ↦ record {
-          call = call;
-          has = contains-has (left_by events w) call (legal.0.offered w me me_is s.start);
-          coin_is = s.coin_is;
-          block_is = s.block_is;
-        }
+        | inr s ↦ grind (arith, common_steps, contains-has)
       ])
   was-left (event ∷ events) legal me me_is x there own =
       left-on event events w c e (was-left events legal.1 me me_is x there own)
 
 source-tip : (events : List Event) (w c e : ℕ) (h : Holding events w c e) → is_tip events w h.me c e ≡ true
-source-tip events w c e h = either h.source
-  where
-    either : (was_deposited h.me e (coin_at (log_of events) c) ≡ true)
-        ⊎ (list_any (is_bundle c e) (accepted events w) ≡ true) → is_tip events w h.me c e ≡ true
-    either (inl l) = or_left _ _ l
-    either (inr r) = or_right _ _ r
+source-tip events w c e h = grind (arith, common_steps, or_left, or_right)
 
 -- so it is at the tip at which the wallet holds the coin
 pub own-at-tip : (tests : Tests) (rules : Rules) → SignsBy tests → (events : List Event) (w c e : ℕ)

@@ -1,6 +1,7 @@
 -- What holds of each thing of a list and each later one.
-use Rattle.std.proofs.Common.{◌≡◌, ℕ, ◌≤◌, cond, Bool, true, false, List, [], ◌∷◌, ◌++◌, map, filter, inl, inr, refl, sym, ap, ◌∙◌, subst, arith}
+use Rattle.std.proofs.Common.{◌≡◌, ℕ, ◌≤◌, Bool, true, List, [], ◌∷◌, ◌++◌, map, filter, inl, inr, refl, sym, ap, ◌∙◌, subst, arith}
 use Rattle.std.specs.List.{flat_map}
+use Rattle.std.proofs.lemmas.Grind.{common_steps}
 use Rattle.plasma_tx.proofs.RuleNames.{one_if, count}
 use Rattle.watch_duty.proofs.Members.{Has, has-cases, has-filter, has-map, has-flat_map}
 
@@ -22,11 +23,7 @@ module _ {X : Type 0} where
 
   pub pairs-filter : (R : X → X → Type 0) (p : X → Bool) (xs : List X) → Pairs R xs → Pairs R (filter p xs)
   pairs-filter R p [] all = tt
-  pairs-filter R p (x ∷ xs) all =
-      elim (p x) as (λ b. Pairs R (cond b (x ∷ filter p xs) (filter p xs))) [
-        | true ↦ (λ y h. all.0 y (has-filter p xs y h).0, pairs-filter R p xs all.1)
-        | false ↦ pairs-filter R p xs all.1
-      ]
+  pairs-filter R p (x ∷ xs) all = grind (arith, common_steps, pairs-filter R p xs all.1, has-filter)
 
   -- at most one has each name
   counted : (p : X → Bool) (xs : List X) (x : X) → Has xs x → p x ≡ true → 1 ≤ count p xs

@@ -1,14 +1,12 @@
 -- What the words Safe, Leaving and Act say of the time until the next look.
-use Rattle.std.proofs.Common.{◌≡◌, ℕ, ◌+◌, ◌≤◌, ◌==◌, Bool, true, false, List, [], ◌∷◌, ◌++◌, map, Some, inl, inr, refl, sym, ap, ◌∙◌, subst, arith}
+use Rattle.std.proofs.Common.{◌≡◌, ℕ, ◌≤◌, ◌==◌, Bool, true, false, List, [], ◌∷◌, ◌++◌, map, Some, inl, inr, refl, sym, ap, ◌∙◌, subst, arith, rules}
 use Rattle.std.specs.List.{list_any, Contains}
-use Rattle.std.specs.Option.{option_map_or}
 use Rattle.std.proofs.Math.Nat.{le_refl}
 use Rattle.std.proofs.lemmas.Bool.{leb-true, or_parts, or_from, false≢true}
+use Rattle.std.proofs.lemmas.Grind.{common_steps}
 use Rattle.plasma_tx.specs.declared.owner.Owner.{Owner}
 use Rattle.plasma_tx.specs.declared.call.RootCall.{RootCall}
-use Rattle.plasma_tx.specs.declared.rules.TheConstants.{CHALLENGE_WINDOW}
-use Rattle.plasma_tx.specs.Views.{now, Exit, exit_at, exit_view}
-use Rattle.plasma_tx.specs.Table.{is_over}
+use Rattle.plasma_tx.specs.Views.{now, exit_view}
 use Rattle.plasma_tx.specs.Shown.{Rules, tests_by}
 use Rattle.watch_duty.proofs.Members.{has-contains, contains-has, has-left}
 use Rattle.world_rules.specs.Laws.{IsDigest}
@@ -54,10 +52,7 @@ pub record Goes (later events : List Event) (w c e : ℕ) : Type 0 where
 any-append : {A : Type 0} (p : A → Bool) (xs ys : List A) → list_any p (xs ++ ys) ≡ false
     → (list_any p xs ≡ false) × (list_any p ys ≡ false)
 any-append p [] ys none = (refl, none)
-any-append p (x ∷ xs) ys none =
-    let parts = or_parts (p x) (list_any p (xs ++ ys)) none in
-    let rest = any-append p xs ys parts.1 in
-    (or_from (p x) (list_any p xs) parts.0 rest.0, rest.1)
+any-append p (x ∷ xs) ys none = grind (arith, common_steps, or_parts, or_from)
 
 -- each call that is due may be entered at least till the first end
 act-calls : (log : List RootCall) (account : ℕ) (kept : Kept) (first : ℕ)
@@ -93,16 +88,11 @@ module _ (dig : List ℕ → List ℕ) (digest : IsDigest dig) (rules : Rules) (
       (standing-has (log_of events) kept y there (own.0 ∙ sym look.coin_is))) (own.2 ∙ sym look.tip_is))
 
   own-closed : is_shut (log_of events) c e ≡ true → IsShut events Me c e
-  own-closed shut y there own =
-      leb-true (y.start + CHALLENGE_WINDOW) (now (log_of events))
-      (sym (ap (λ o. option_map_or (λ (exit : Exit). is_over (log_of events) exit.start CHALLENGE_WINDOW) o true)
-      (ap (exit_at (log_of events) c) (sym own.2) ∙ stands-there (log_of events) c y there own.0)) ∙ shut)
+  own-closed shut y there own = grind (arith, common_steps, leb-true, stands-there)
 
   short-goes : AreShort (wallet_owner events w) c e later events
       → GoesTill later events Me c e (now (log_of (later ++ events)))
-  short-goes (inl less) = inl less
-  short-goes (inr s) =
-      inr (s.2, own-closed s.0, ap (λ o. list_any (begins_own o c e) later) (sym me_is) ∙ s.1)
+  short-goes h0 = grind (arith, common_steps, own-closed, me_is)
 
   -- till the time of Act nothing goes wrong
   act-till : (by money : ℕ) → Tells (log_of events) account clock kept (Act by money) → (end : ℕ) → end ≤ by
@@ -137,10 +127,7 @@ module _ (dig : List ℕ → List ℕ) (digest : IsDigest dig) (rules : Rules) (
     apart : list_any (begins_own (wallet_owner events w) c e) later ≡ false
         → (list_any (begins_own (Some Me) c e) r.after ≡ false)
         × (list_any (begins_own (Some Me) c e) r.within ≡ false)
-    apart none =
-        any-append (begins_own (Some Me) c e) r.after r.within
-        (ap (list_any (begins_own (Some Me) c e)) (sym r.later_is)
-        ∙ ap (λ o. list_any (begins_own o c e) later) (sym me_is) ∙ none)
+    apart none = grind (arith, common_steps, any-append, me_is)
 
     acted-goes : AreShort (wallet_owner events w) c e later events → Goes later events w c e
     acted-goes (inl less) = record {
@@ -184,16 +171,7 @@ module _ (dig : List ℕ → List ℕ) (digest : IsDigest dig) (rules : Rules) (
 
   from-look-itself : StandsTill events c e Me (now (log_of (later ++ events)))
       → GoesTill later events Me c e (now (log_of (later ++ events))) → Goes later events w c e
-  from-look-itself stands goes = record {
-    after = later;
-    base = events;
-    all_is = refl;
-    me = Me;
-    me_is = me_is;
-    stands = stands;
-    goes = goes;
-    in_time = λ so_far. so_far;
-  }
+  from-look-itself stands goes = grind (arith, common_steps, me_is)
 
   -- while what it says goes
   pub look-goes : Covers (word_of (log_of events) account clock kept) (due (log_of events) account kept)

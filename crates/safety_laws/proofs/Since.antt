@@ -1,9 +1,10 @@
 -- Where an exit that stands at a later event comes from: it stood at the look, or began since.
-use Rattle.std.proofs.Common.{◌≡◌, ◌⊎◌, ℕ, ◌+◌, ◌≤◌, ◌==◌, true, false, List, [], ◌∷◌, ◌++◌, Some, None, inl, inr, refl, sym, ap, ◌∙◌, subst, arith}
+use Rattle.std.proofs.Common.{◌≡◌, ◌⊎◌, ℕ, ◌+◌, ◌≤◌, ◌==◌, true, false, List, [], ◌∷◌, ◌++◌, Some, None, inl, inr, sym, ap, ◌∙◌, arith, rules}
 use Rattle.std.specs.Prelude.{is_none}
 use Rattle.std.specs.List.{list_any}
 use Rattle.std.proofs.Math.Nat.{le_refl}
 use Rattle.std.proofs.lemmas.Bool.{eq-eqb, eqb-true, and_parts, and_from, or_from, or_parts, or_cases, true≢false, false≢true}
+use Rattle.std.proofs.lemmas.Grind.{common_steps}
 use Rattle.plasma_tx.specs.declared.owner.Owner.{Owner}
 use Rattle.plasma_tx.specs.declared.call.RootCall.{RootCall}
 use Rattle.plasma_tx.specs.declared.call.RootCall.TheVariants.{StartDeposit, StartSpend}
@@ -78,35 +79,18 @@ module _ (tests : Tests) (rules : Rules) (events : List Event) where
       → now (log_of events) ≤ now (log_of (later ++ events))
   unfolding IsLegal log_of
   clock-since [] legal = le_refl (now (log_of events))
-  clock-since (Joins call ∷ later) legal =
-      omega (
-        arith,
-        clock-since later legal.1,
-        clock-before tests rules (log_of (later ++ events)) call legal.0.accepted,
-      )
+  clock-since (Joins call ∷ later) legal = grind (arith, common_steps, clock-since later legal.1, clock-before)
   clock-since (event ∷ later) legal = clock-since later legal.1
 
   new-since : (later : List Event) (call : RootCall) (x : Exit) → now (log_of events) ≤ now (log_of (later ++ events))
       → IsNew (log_of (later ++ events)) call x → IsBegunSince events x
-  new-since later call x clock new = record {
-    start = omega (arith, clock, new.start);
-    opened = λ ch has still. absurd (subst (λ (l : List Challenge). Has l ch) new.unchallenged has);
-  }
+  new-since later call x clock new = grind (arith, common_steps)
 
   open-still : (since : List RootCall) (call : RootCall) (x y z : Exit) (ch old : Challenge) → y.coin ≡ x.coin
       → y.block ≡ x.block → old.block ≡ ch.block → old.at ≡ ch.at
       → is_respond x.coin x.block ch.block call ≡ false → WasOpenThen since y z old
       → WasOpenThen (call ∷ since) x z ch
-  open-still since call x y z ch old coin block place at other o = record {
-    old = o.old;
-    there = o.there;
-    still = o.still;
-    at = o.at ∙ at;
-    block = o.block ∙ place;
-    unanswered = or_from (is_respond x.coin x.block ch.block call)
-        (list_any (is_respond x.coin x.block ch.block) since) other
-        ((λ i. list_any (is_respond (sym coin i) (sym block i) (sym place i)) since) ∙ o.unanswered);
-  }
+  open-still since call x y z ch old coin block place at other o = grind (arith, common_steps, or_from)
 
   old-still : (since : List RootCall) (log : List RootCall) (call : RootCall) (x : Exit)
       → now (log_of events) ≤ now log → (s : StoodBefore log call x) → IsOld since events s.y
@@ -139,34 +123,10 @@ module _ (tests : Tests) (rules : Rules) (events : List Event) where
 
   begun-still : (log : List RootCall) (call : RootCall) (x : Exit) → now (log_of events) ≤ now log
       → (s : StoodBefore log call x) → IsBegunSince events s.y → IsBegunSince events x
-  begun-still log call x clock s b = record {
-    start = omega (arith, b.start, s.start);
-    opened = λ ch has still. elim (s.opened ch has still) [
-      | inl made ↦ omega (arith, clock, made.1)
-      | inr was ↦ omega (arith, b.opened was.old was.there was.unanswered, was.at)
-    ];
-  }
+  begun-still log call x clock s b = grind (arith, common_steps)
 
   old-itself : (x : Exit) → Has (exits (log_of events)) x → IsOld [] events x
-  old-itself x there = record {
-    y = x;
-    there = there;
-    coin = refl;
-    block = refl;
-    account = refl;
-    start = refl;
-    challenged = λ n was. was;
-    unended = refl;
-    met = λ n some. absurd (false≢true some);
-    opened = λ ch has still. inr (record {
-      old = ch;
-      there = has;
-      still = still;
-      at = refl;
-      block = refl;
-      unanswered = refl;
-    });
-  }
+  old-itself x there = grind (arith, common_steps, false≢true)
 
   pub from-look : (later : List Event) → IsLegal tests rules (later ++ events) → (x : Exit)
       → Has (exits (log_of (later ++ events))) x → IsOld (log_of later) events x ⊎ IsBegunSince events x

@@ -1,24 +1,23 @@
 -- A call on an exit leaves calls on other exits what they are, but for the money.
-use Rattle.std.proofs.Common.{◌≡◌, ◌⊎◌, ℕ, ◌+◌, ◌<◌, ◌≤◌, ◌==◌, ◌&&◌, not, Bool, true, false, if◌then◌else◌, List, [], ◌∷◌, map, Option, Some, None, option_map, inl, inr, refl, sym, ap, ◌∙◌, subst}
+use Rattle.std.proofs.Common.{◌≡◌, ◌⊎◌, ℕ, ◌==◌, ◌&&◌, not, Bool, true, false, if◌then◌else◌, List, [], ◌∷◌, map, Option, Some, None, option_map, inl, inr, refl, sym, ap, ◌∙◌, arith, rules}
 use Rattle.std.specs.Prelude.{is_some, nat_lt}
 use Rattle.std.specs.Option.{option_and_then}
 use Rattle.std.proofs.lemmas.Bool.{eqb-true, ltb-false, not-true, true≢false, false≢true}
+use Rattle.std.proofs.lemmas.Grind.{common_steps}
 use Rattle.plasma_tx.specs.declared.owner.Owner.{Owner}
 use Rattle.plasma_tx.specs.declared.opening.RawOpening.{RawOpening}
 use Rattle.plasma_tx.specs.declared.signed_tx.SignedTx.{SignedTx}
 use Rattle.plasma_tx.specs.declared.call.Shown.{Shown}
 use Rattle.plasma_tx.specs.declared.call.Shown.TheVariants.{Deposit as AtDeposit, Spend}
 use Rattle.plasma_tx.specs.declared.call.RootCall.{RootCall}
-use Rattle.plasma_tx.specs.declared.call.RootCall.TheVariants.{Fund, Tick, Deposit, Commit, StartDeposit, StartSpend, After, Between, Before, Respond, Finish}
+use Rattle.plasma_tx.specs.declared.call.RootCall.TheVariants.{StartDeposit, StartSpend, After, Between, Before, Respond, Finish}
 use Rattle.plasma_tx.specs.declared.views.CoinView.{CoinView}
-use Rattle.plasma_tx.specs.declared.rules.TheConstants.{EXIT_BOND, CHALLENGE_BOND, CHALLENGE_WINDOW, RESPONSE_WINDOW, EXIT_PERIOD}
 use Rattle.plasma_tx.specs.Openings.{leaf_in}
 use Rattle.plasma_tx.specs.Transfer.{transfer_in}
 use Rattle.plasma_tx.specs.Views.{now, block_at, coin_at, Challenge, Exit, exits, exit_at, challenge_at, block_of, is_withdrawn, with_answer, with_answer_at}
 use Rattle.plasma_tx.specs.Shown.{Tests, Rules, root_at, shown_tx, shown_owner}
 use Rattle.plasma_tx.specs.Table.{answer_to, is_accepted, is_before_parent, is_committed_after, is_parent_of}
 use Rattle.plasma_tx.specs.RuleLaws.{is_of_exit}
-use Rattle.plasma_tx.specs.Money.{balance_of}
 use Rattle.plasma_tx.specs.Accepted.{ShowsTx, CancelsAfter, CancelsBetween, Responds, Finishes}
 use Rattle.plasma_tx.proofs.Accepted.{accepted_calls_show}
 use Rattle.plasma_tx.proofs.Acceptance.{shown_calls_are_accepted}
@@ -163,56 +162,7 @@ module _ (tests : Tests) (rules : Rules) where
       → IsBy account call → is_poor log account call ≡ false
       → is_accepted (answer_to tests rules log call) ≡ true
   unfolding CouldBe
-  could-taken log account (StartDeposit by c block) could own rich =
-      shown_calls_are_accepted tests rules log (StartDeposit by c block) (record {
-        coin = could.coin;
-        there = could.there;
-        not_withdrawn = could.not_withdrawn;
-        at_deposit = could.at_deposit;
-        owner = could.owner;
-        none_stands = could.none_stands;
-        covered = subst (λ n. EXIT_BOND ≤ balance_of log n) (sym own)
-            (ltb-false (balance_of log account) EXIT_BOND rich);
-      })
-  could-taken log account (StartSpend by c parent exit) could own rich =
-      shown_calls_are_accepted tests rules log (StartSpend by c parent exit) (record {
-        coin = could.coin;
-        there = could.there;
-        not_withdrawn = could.not_withdrawn;
-        committed = could.committed;
-        parent_fits = could.parent_fits;
-        parent_owner = could.parent_owner;
-        parent_shown = could.parent_shown;
-        tx = could.tx;
-        shown = could.shown;
-        child = could.child;
-        signed = could.signed;
-        owner = could.owner;
-        none_stands = could.none_stands;
-        covered = subst (λ n. EXIT_BOND ≤ balance_of log n) (sym own)
-            (ltb-false (balance_of log account) EXIT_BOND rich);
-      })
-  could-taken log account (After by c f spend) could own rich =
-      shown_calls_are_accepted tests rules log (After by c f spend) could
-  could-taken log account (Between by c f spend) could own rich =
-      shown_calls_are_accepted tests rules log (Between by c f spend) could
-  could-taken log account (Before by c f shown) could own rich =
-      shown_calls_are_accepted tests rules log (Before by c f shown) (record {
-        exit = could.exit;
-        stands = could.stands;
-        in_time = could.in_time;
-        before = could.before;
-        owner = could.owner;
-        owner_shown = could.owner_shown;
-        none_there = could.none_there;
-        covered = subst (λ n. CHALLENGE_BOND ≤ balance_of log n) (sym own)
-            (ltb-false (balance_of log account) CHALLENGE_BOND rich);
-      })
-  could-taken log account (Respond by c f n spend) could own rich =
-      shown_calls_are_accepted tests rules log (Respond by c f n spend) could
-  could-taken log account (Finish by c f) could own rich =
-      shown_calls_are_accepted tests rules log (Finish by c f) could
-  could-taken log account call could own rich = absurd could
+  could-taken log account call could own rich = grind (arith, common_steps, shown_calls_are_accepted, ltb-false)
 
 -- ---- what a call on an exit leaves
 
@@ -223,41 +173,18 @@ record IsSame (log other : List RootCall) : Type 0 where
 
 moved-same : (log : List RootCall) (new : RootCall) → is_move new ≡ true → IsSame log (new ∷ log)
 unfolding now coin_at block_at
-moved-same log (StartDeposit account c block) move = record { clock = refl; coins = λ n. refl; roots = λ n. refl }
-moved-same log (StartSpend account c parent exit) move =
-    record { clock = refl; coins = λ n. refl; roots = λ n. refl }
-moved-same log (After account c f spend) move = record { clock = refl; coins = λ n. refl; roots = λ n. refl }
-moved-same log (Between account c f spend) move = record { clock = refl; coins = λ n. refl; roots = λ n. refl }
-moved-same log (Before account c f shown) move = record { clock = refl; coins = λ n. refl; roots = λ n. refl }
-moved-same log (Respond account c f m spend) move = record { clock = refl; coins = λ n. refl; roots = λ n. refl }
-moved-same log (Finish account c f) move = record { clock = refl; coins = λ n. refl; roots = λ n. refl }
-moved-same log call move = absurd (false≢true move)
+moved-same log call move = grind (arith, common_steps, false≢true)
 
 -- where no exit is finished, no coin comes to be withdrawn
 alive-still : (log : List RootCall) (new : RootCall) (c : ℕ) → is_finish new ≡ false
     → is_withdrawn (new ∷ log) c ≡ is_withdrawn log c
 unfolding is_withdrawn
-alive-still log (Finish account k f) c none = absurd (true≢false none)
-alive-still log (Fund account amount) c none = refl
-alive-still log (Tick time) c none = refl
-alive-still log (Deposit account amount key) c none = refl
-alive-still log (Commit account root) c none = refl
-alive-still log (StartDeposit account k block) c none = refl
-alive-still log (StartSpend account k parent exit) c none = refl
-alive-still log (After account k f spend) c none = refl
-alive-still log (Between account k f spend) c none = refl
-alive-still log (Before account k f shown) c none = refl
-alive-still log (Respond account k f m spend) c none = refl
+alive-still log new c none = grind (arith, common_steps, true≢false)
 
 module _ (tests : Tests) (rules : Rules) (log other : List RootCall) (same : IsSame log other) where
   shows-still : (c : ℕ) (o : RawOpening) (tx : SignedTx) → ShowsTx tests rules log c o tx
       → ShowsTx tests rules other c o tx
-  shows-still c o tx s = record {
-    root = s.root;
-    committed = same.roots o.block ∙ s.committed;
-    opened = s.opened;
-    spelled = s.spelled;
-  }
+  shows-still c o tx s = grind (arith, common_steps)
 
   tx-still : (c : ℕ) (o : RawOpening) → shown_tx tests rules other c o ≡ shown_tx tests rules log c o
   unfolding shown_tx
@@ -271,120 +198,46 @@ module _ (tests : Tests) (rules : Rules) (log other : List RootCall) (same : IsS
 
   parent-still : (made : Option CoinView) (exit : Exit) (shown : Shown)
       → is_before_parent other made exit shown ≡ is_before_parent log made exit shown
-  parent-still None exit shown = refl
-  parent-still (Some coin) exit (AtDeposit block) = refl
-  parent-still (Some coin) exit (Spend opening) =
-      ap (λ (r : Option (List ℕ)). is_some r && nat_lt coin.deposit opening.block && nat_lt opening.block exit.parent)
-      (same.roots opening.block)
+  parent-still made exit shown = grind (arith, common_steps)
 
   committed-still : (low n : ℕ) → is_committed_after other low n ≡ is_committed_after log low n
   committed-still low n = ap (λ (r : Option (List ℕ)). is_some r && nat_lt low n) (same.roots n)
 
   fits-still : (made : CoinView) (block : ℕ) (parent : Shown)
       → is_parent_of other made block parent ≡ is_parent_of log made block parent
-  fits-still made block (AtDeposit at) = refl
-  fits-still made block (Spend opening) =
-      ap (λ (r : Option (List ℕ)). is_some r && nat_lt made.deposit opening.block && nat_lt opening.block block)
-      (same.roots opening.block)
+  fits-still made block parent = grind (arith, common_steps)
 
   deposit-still : (account c block : ℕ) → is_withdrawn other c ≡ is_withdrawn log c
       → exit_at other c block ≡ exit_at log c block → MayStartDeposit log account c block
       → MayStartDeposit other account c block
-  deposit-still account c block alive stays s = record {
-    coin = s.coin;
-    there = same.coins c ∙ s.there;
-    not_withdrawn = alive ∙ s.not_withdrawn;
-    at_deposit = s.at_deposit;
-    owner = s.owner;
-    none_stands = stays ∙ s.none_stands;
-  }
+  deposit-still account c block alive stays s = grind (arith, common_steps)
 
   spend-still : (account c : ℕ) (parent : Shown) (exit : RawOpening) → is_withdrawn other c ≡ is_withdrawn log c
       → exit_at other c exit.block ≡ exit_at log c exit.block → MayStartSpend tests rules log account c parent exit
       → MayStartSpend tests rules other account c parent exit
-  spend-still account c parent exit alive stays s = record {
-    coin = s.coin;
-    there = same.coins c ∙ s.there;
-    not_withdrawn = alive ∙ s.not_withdrawn;
-    committed = committed-still s.coin.deposit exit.block ∙ s.committed;
-    parent_fits = fits-still s.coin exit.block parent ∙ s.parent_fits;
-    parent_owner = s.parent_owner;
-    parent_shown = owner-still c parent ∙ s.parent_shown;
-    tx = s.tx;
-    shown = shows-still c exit s.tx s.shown;
-    child = s.child;
-    signed = s.signed;
-    owner = s.owner;
-    none_stands = stays ∙ s.none_stands;
-  }
+  spend-still account c parent exit alive stays s =
+      grind (arith, common_steps, committed-still, fits-still, owner-still, shows-still)
 
   after-still : (c f : ℕ) (spend : RawOpening) → exit_at other c f ≡ exit_at log c f
       → CancelsAfter tests rules log c f spend → CancelsAfter tests rules other c f spend
-  after-still c f spend stays s = record {
-    exit = s.exit;
-    stands = stays ∙ s.stands;
-    in_time = subst (λ n. n < s.exit.start + CHALLENGE_WINDOW) (sym same.clock) s.in_time;
-    later = s.later;
-    tx = s.tx;
-    shown = shows-still c spend s.tx s.shown;
-    child = s.child;
-    signed = s.signed;
-  }
+  after-still c f spend stays s = grind (arith, common_steps, shows-still)
 
   between-still : (c f : ℕ) (spend : RawOpening) → exit_at other c f ≡ exit_at log c f
       → CancelsBetween tests rules log c f spend → CancelsBetween tests rules other c f spend
-  between-still c f spend stays s = record {
-    exit = s.exit;
-    stands = stays ∙ s.stands;
-    in_time = subst (λ n. n < s.exit.start + CHALLENGE_WINDOW) (sym same.clock) s.in_time;
-    parent = s.parent;
-    later = s.later;
-    earlier = s.earlier;
-    tx = s.tx;
-    shown = shows-still c spend s.tx s.shown;
-    child = s.child;
-    signed = s.signed;
-  }
+  between-still c f spend stays s = grind (arith, common_steps, shows-still)
 
   before-still : (c f : ℕ) (shown : Shown) → exit_at other c f ≡ exit_at log c f
       → Could tests rules log c f shown → Could tests rules other c f shown
-  before-still c f shown stays s = record {
-    exit = s.exit;
-    stands = stays ∙ s.stands;
-    in_time = subst (λ n. n < s.exit.start + CHALLENGE_WINDOW) (sym same.clock) s.in_time;
-    before = parent-still (coin_at other c) s.exit shown
-        ∙ ap (λ (made : Option CoinView). is_before_parent log made s.exit shown) (same.coins c) ∙ s.before;
-    owner = s.owner;
-    owner_shown = owner-still c shown ∙ s.owner_shown;
-    none_there = s.none_there;
-  }
+  before-still c f shown stays s = grind (arith, common_steps, parent-still, owner-still)
 
   respond-still : (c f n : ℕ) (spend : RawOpening) (s : Responds tests rules log c f n spend) (exit : Exit)
       → exit_at other c f ≡ Some exit → challenge_at n exit.challenges ≡ Some s.challenge
       → exit.parent ≡ s.exit.parent → Responds tests rules other c f n spend
-  respond-still c f n spend s exit stands there parent = record {
-    exit = exit;
-    stands = stands;
-    challenge = s.challenge;
-    there = there;
-    open_still = s.open_still;
-    in_time = subst (λ k. k < s.challenge.at + RESPONSE_WINDOW) (sym same.clock) s.in_time;
-    later = s.later;
-    within = subst (λ k. spend.block ≤ k) (sym parent) s.within;
-    tx = s.tx;
-    shown = shows-still c spend s.tx s.shown;
-    child = s.child;
-    signed = s.signed;
-  }
+  respond-still c f n spend s exit stands there parent = grind (arith, common_steps, shows-still)
 
   finish-still : (c f : ℕ) (s : Finishes log c f) (exit : Exit) → exit_at other c f ≡ Some exit
       → exit.start ≡ s.exit.start → Finishes other c f
-  finish-still c f s exit stands start = record {
-    exit = exit;
-    stands = stands;
-    in_time = subst (λ k. exit.start + EXIT_PERIOD ≤ k) (sym same.clock)
-        (subst (λ k. k + EXIT_PERIOD ≤ now log) (sym start) s.in_time);
-  }
+  finish-still c f s exit stands start = grind (arith, common_steps)
 
 -- ---- after an answer
 
@@ -424,20 +277,8 @@ answered log by k g m spend c f x stands =
     by_name : (b : Bool) → exit_at (Respond by k g m spend ∷ log) c f
         ≡ (if b then option_map (with_answer m) (exit_at log c f) else exit_at log c f)
         → IsAnswered log (Respond by k g m spend) m c f x
-    by_name true is = record {
-      exit = with_answer m x;
-      stands = is ∙ ap (option_map (with_answer m)) stands;
-      start = refl;
-      parent = refl;
-      there = λ n apart. other-challenge m n x.challenges apart;
-    }
-    by_name false is = record {
-      exit = x;
-      stands = is ∙ stands;
-      start = refl;
-      parent = refl;
-      there = λ n apart. refl;
-    }
+    by_name true is = grind (arith, common_steps, other-challenge)
+    by_name false is = grind (arith, common_steps)
 
 -- ---- one call before another
 

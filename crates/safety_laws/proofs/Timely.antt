@@ -1,11 +1,12 @@
 -- While what a look says goes, no exit of the coin comes too late.
-use Rattle.std.proofs.Common.{◌≡◌, ◌⊎◌, ℕ, ◌+◌, ◌<◌, ◌≤◌, ◌==◌, ◌&&◌, not, true, false, if◌then◌else◌, List, [], ◌∷◌, ◌++◌, Some, inl, inr, sym, ap, ◌∙◌, arith}
-use Rattle.std.specs.Prelude.{is_none, nat_le}
+use Rattle.std.proofs.Common.{◌≡◌, ◌⊎◌, ℕ, ◌+◌, ◌<◌, ◌≤◌, ◌==◌, ◌&&◌, not, true, false, List, [], ◌∷◌, ◌++◌, Some, inl, inr, sym, ap, ◌∙◌, arith, rules}
+use Rattle.std.specs.Prelude.{is_none}
 use Rattle.std.specs.Option.{option_map_or}
 use Rattle.std.specs.List.{list_any}
 use Rattle.std.proofs.lemmas.Bool.{cases_Bool, eqb-true, leb-true, and_parts, and_from, or_parts, not-true, not_from_false, true≢false, false_from_ne_true}
+use Rattle.std.proofs.lemmas.Grind.{common_steps}
 use Rattle.plasma_tx.specs.declared.owner.Owner.{Owner}
-use Rattle.plasma_tx.specs.declared.rules.TheConstants.{CHALLENGE_WINDOW, RESPONSE_WINDOW, EXIT_PERIOD}
+use Rattle.plasma_tx.specs.declared.rules.TheConstants.{CHALLENGE_WINDOW, RESPONSE_WINDOW}
 use Rattle.plasma_tx.specs.Views.{now, Challenge, Exit, exits, challenge_at}
 use Rattle.plasma_tx.specs.Shown.{Tests, Rules}
 use Rattle.watch_duty.proofs.Members.{Has}
@@ -13,7 +14,6 @@ use Rattle.world_rules.specs.Events.{Event, log_of, wallet_owner}
 use Rattle.world_rules.specs.Safety.{holds, is_mine}
 use Rattle.world_laws.specs.Legal.{IsLegal}
 use Rattle.world_laws.proofs.Lists.{any-some}
-use Rattle.money_laws.specs.First.{is_ripe, is_missed}
 use Rattle.money_laws.specs.MoneyLaws.{is_late, goes_late, is_in_time}
 use Rattle.safety_laws.specs.Look.{begins_own}
 use Rattle.safety_laws.proofs.AtLook.{StandsTill}
@@ -30,9 +30,7 @@ GoesTill later events me c e end =
 -- it was so at each event since
 goes-before : (event : Event) (later events : List Event) (me : Owner) (c e end : ℕ)
     → GoesTill (event ∷ later) events me c e end → GoesTill later events me c e end
-goes-before event later events me c e end (inl less) = inl less
-goes-before event later events me c e end (inr r) =
-    inr (r.0, r.1, (or_parts (begins_own (Some me) c e event) (list_any (begins_own (Some me) c e) later) r.2).1)
+goes-before event later events me c e end h7 = grind (arith, common_steps, or_parts)
 
 module _ (tests : Tests) (rules : Rules) (events : List Event) (w c e : ℕ) (me : Owner)
     (me_is : wallet_owner events w ≡ Some me) (end : ℕ) (stands : StandsTill events c e me end) where
@@ -42,64 +40,34 @@ module _ (tests : Tests) (rules : Rules) (events : List Event) (w c e : ℕ) (me
       → (ch : Challenge) → Has x.challenges ch → ch.answered ≡ false → end < ch.at + RESPONSE_WINDOW
   own-answers later legal (inl less) x there c_is at_tip mine ch has still =
       elim (from-look tests rules events later legal x there) [
-        | inl o ↦ elim (o.opened ch has still) [
-          | inl since ↦ omega (arith, since, less)
-          | inr old ↦
-              let inside = stands.tips o.y o.there (o.coin ∙ c_is) (o.block ∙ at_tip)
-              ((λ i. (o.account i) == me.account) ∙ mine) old.old old.there old.still in
-              omega (arith, inside, old.at)
-        ]
+        | inl o ↦ grind (arith, common_steps)
         | inr b ↦ omega (arith, b.opened ch has still, less)
       ]
-  own-answers later legal (inr r) x there c_is at_tip mine ch has still =
-      let s = own-shut tests rules events later me c e legal r.2 r.1 x there (c_is, mine, at_tip) ch has still in
-      let inside = stands.tips s.0.y s.0.there (s.0.coin ∙ c_is) (s.0.block ∙ at_tip)
-      ((λ i. (s.0.account i) == me.account) ∙ mine) s.1.old s.1.there s.1.still in
-      omega (arith, inside, s.1.at)
+  own-answers later legal (inr r) x there c_is at_tip mine ch has still = grind (arith, common_steps, own-shut)
 
   -- another's exit is challenged at the tip, or its window is open still
   pub others-open : (later : List Event) → IsLegal tests rules (later ++ events) → GoesTill later events me c e end
       → (x : Exit) → Has (exits (log_of (later ++ events))) x → x.coin ≡ c → is_mine me x ≡ false
       → (is_none (challenge_at e x.challenges) ≡ false) ⊎ (end < x.start + CHALLENGE_WINDOW)
-  others-open later legal goes x there c_is other =
-      elim (from-look tests rules events later legal x there) [
-        | inl o ↦ elim (stands.others o.y o.there (o.coin ∙ c_is) ((λ i. (o.account i) == me.account) ∙ other)) [
-          | inl challenged ↦ inl (o.challenged e challenged)
-          | inr less ↦ inr (omega (arith, less, o.start))
-        ]
-        | inr b ↦ inr (omega (arith, b.start, bound goes))
-      ]
-    where
-      bound : GoesTill later events me c e end → end < now (log_of events) + CHALLENGE_WINDOW
-      bound (inl less) = omega (arith, less)
-      bound (inr r) = r.0
+  others-open later legal goes x there c_is other = grind (arith, common_steps, from-look)
 
   not-late : (later : List Event) → IsLegal tests rules (later ++ events) → GoesTill later events me c e end
       → now (log_of (later ++ events)) ≤ end → (x : Exit) → Has (exits (log_of (later ++ events))) x → x.coin ≡ c
       → is_late me e (now (log_of (later ++ events))) x ≡ true → ⊥
   not-late later legal goes early x there c_is late =
-      let time : ℕ = now (log_of (later ++ events)) in
-      elim (cases_Bool (is_mine me x)) [
-        | inl own ↦
-            let parts = and_parts (x.block == e) (list_any (is_missed time) x.challenges)
-            (sym (ap (λ b. if b then (x.block == e) && list_any (is_missed time) x.challenges
-            else is_none (challenge_at e x.challenges) && is_ripe time x) own) ∙ late) in
-            let m = any-some (is_missed time) x.challenges parts.1 in
-            let missed = and_parts (not m.0.answered) (nat_le (m.0.at + RESPONSE_WINDOW) time) m.2 in
-            let inside = own-answers later legal goes x there c_is (eqb-true x.block e parts.0) own m.0 m.1
-            (not-true m.0.answered missed.0) in
-            let over = leb-true (m.0.at + RESPONSE_WINDOW) time missed.1 in
-            absurd (omega (arith, inside, over, early))
-        | inr other ↦
-            let parts = and_parts (is_none (challenge_at e x.challenges)) (is_ripe time x)
-            (sym (ap (λ b. if b then (x.block == e) && list_any (is_missed time) x.challenges
-            else is_none (challenge_at e x.challenges) && is_ripe time x) other) ∙ late) in
-            let over = leb-true (x.start + EXIT_PERIOD) time parts.1 in
-            elim (others-open later legal goes x there c_is other) [
-              | inl challenged ↦ true≢false (sym parts.0 ∙ challenged)
-              | inr less ↦ absurd (omega (arith, over, less, early))
-            ]
-      ]
+      grind (
+        arith,
+        common_steps,
+        cases_Bool,
+        and_parts,
+        any-some,
+        own-answers,
+        eqb-true,
+        not-true,
+        leb-true,
+        others-open,
+        true≢false,
+      )
 
   pub none-goes : (later : List Event) → IsLegal tests rules (later ++ events) → GoesTill later events me c e end
       → now (log_of (later ++ events)) ≤ end → goes_late (later ++ events) w c e ≡ false

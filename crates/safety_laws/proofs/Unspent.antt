@@ -1,11 +1,11 @@
 -- No standing exit spends the tip of a coin that a wallet holds.
-use Rattle.std.proofs.Common.{◌≡◌, ◌≢◌, ℕ, ◌<◌, ◌&&◌, true, false, List, [], ◌∷◌, ◌++◌, inl, inr, refl, sym, ap, ◌∙◌, subst, arith}
+use Rattle.std.proofs.Common.{◌≡◌, ◌≢◌, ℕ, ◌<◌, true, false, List, [], ◌∷◌, ◌++◌, inl, inr, refl, sym, ap, ◌∙◌, subst, arith, rules}
 use Rattle.std.specs.Prelude.{is_some, nat_lt}
 use Rattle.std.specs.List.{AllByRecursion}
 use Rattle.std.proofs.lemmas.Bool.{eqb-true, ltb-true, and_parts}
+use Rattle.std.proofs.lemmas.Grind.{common_steps}
 use Rattle.plasma_tx.specs.declared.opening.RawOpening.{RawOpening}
 use Rattle.plasma_tx.specs.declared.call.Shown.{Shown}
-use Rattle.plasma_tx.specs.declared.call.Shown.TheVariants.{Deposit as AtDeposit, Spend}
 use Rattle.plasma_tx.specs.declared.call.RootCall.{RootCall}
 use Rattle.plasma_tx.specs.declared.call.RootCall.TheVariants.{StartDeposit, StartSpend, Before, Respond}
 use Rattle.plasma_tx.specs.declared.views.CoinView.{CoinView}
@@ -37,12 +37,7 @@ AllUnspent c e xs = AllByRecursion (IsUnspent c e) xs
 -- a parent is before the exit
 pub parent-below : (log : List RootCall) (made : CoinView) (exit : ℕ) (parent : Shown) → made.deposit < exit
     → is_parent_of log made exit parent ≡ true → block_of parent < exit
-parent-below log made exit (AtDeposit block) low fits =
-    let at = eqb-true block made.deposit fits in omega (arith, at, low)
-parent-below log made exit (Spend opening) low fits =
-    ltb-true opening.block exit
-    (and_parts (is_some (root_at log opening.block) && nat_lt made.deposit opening.block) (nat_lt opening.block exit)
-    fits).1
+parent-below log made exit parent low fits = grind (arith, common_steps, eqb-true, ltb-true, and_parts)
 
 module _ (tests : Tests) (rules : Rules) (signs : SignsBy tests) (events : List Event) (w c e : ℕ)
     (legal : IsLegal tests rules events) (more : List RawOpening) (at : AtEvent tests rules events w c e more) where
