@@ -16,7 +16,7 @@ use Rattle.coin_history.specs.declared.bundle.Bundle.{Bundle}
 use Rattle.coin_history.specs.History.{leaf_of_opening, transfer_of}
 use Rattle.coin_history.proofs.HistoryGrow.{root_at-grown}
 use Rattle.watch_duty.proofs.Members.{Has, has-left}
-use Rattle.world_rules.specs.Events.{Event, Joins, Binds, TakesBack, log_of, bound_by, leaf_at, taken_back, is_taken, not_taken, signed_away_by, is_sent_from}
+use Rattle.world_rules.specs.Events.{Event, Joins, TakesBack, log_of, bound_by, leaf_at, taken_back, is_taken, not_taken, signed_away_by, is_sent_from}
 use Rattle.world_rules.specs.Exhibits.{openings_of, seen}
 use Rattle.world_laws.specs.Legal.{LegalReclaim, IsLegal}
 use Rattle.world_laws.proofs.Lists.{some_same, none_some, any-some}
@@ -153,16 +153,7 @@ back-call tests call log os body k =
       last = k.last;
       last_is = k.last_is;
       reached = omega (arith, more, k.reached);
-      covers = λ n root above under is.
-          let r = k.covers n root above under
-          (sym (root_at-grown log call n (omega (arith, under, k.reached))) ∙ is) in
-          record {
-            o = r.o;
-            has = r.has;
-            block_is = r.block_is;
-            empty = r.empty;
-            opened = opened-grow tests call log body.coin r.o r.opened;
-          };
+      covers = grind (arith, root_at-grown, opened-grow);
     }
 
 pub back-more : (tests : Tests) (log : List RootCall) (os more : List RawOpening) (body : Body)
@@ -190,12 +181,7 @@ record TakenBack (tests : Tests) (events : List Event) (w q : ℕ) : Type 0 wher
 taken-grow : (tests : Tests) (event : Event) (events : List Event) (w q : ℕ) → TakenBack tests events w q
     → TakenBack tests (event ∷ events) w q
 unfolding bound_by
-taken-grow tests event events w q k =
-    record { body = k.body; leaf_is = by_event event; shown = back-grow tests event events k.body k.shown }
-  where
-    by_event : (ev : Event) → leaf_at q (bound_by (ev ∷ events) w) ≡ Some k.body
-    by_event (Binds v new) = leaf_at-maybe (v == w) q new (bound_by events w) k.body k.leaf_is
-    by_event ev = k.leaf_is
+taken-grow tests event events w q k = grind (arith, back-grow, leaf_at-maybe)
 
 taken-new : (tests : Tests) (events : List Event) (w q : ℕ) (bundle : Bundle) → LegalReclaim tests events w q bundle
     → TakenBack tests (TakesBack w q bundle ∷ events) w q

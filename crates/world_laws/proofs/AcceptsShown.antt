@@ -36,7 +36,7 @@ use Rattle.world_rules.proofs.WalletSends.{words}
 use Rattle.world_rules.proofs.KeptWallet.{KeptWallet}
 use Rattle.world_rules.proofs.KeptNode.{Feeds, IsFitOrder, wallet-alone}
 use Rattle.world_rules.specs.Evidence.{has_order}
-use Rattle.world_laws.proofs.GuardsShown.{IsShown, AreShown, shown-more, handed-shown}
+use Rattle.world_laws.proofs.GuardsShown.{AreShown, shown-more, handed-shown}
 
 -- what a wallet's notes accept
 abbrev pub accepted_in : (List ℕ → List ℕ) → List (List ℕ) → List Bundle
@@ -82,13 +82,7 @@ module _ (dig : List ℕ → List ℕ) (tag : List ℕ) (log : List RootCall) (f
       each : AreShown tag (bundle_read bytes ∷ s.accepted) (accepted_in dig wallet.notes ++ kept_of links ∷ [])
       each other has = elim (has-cases (accepted_in dig wallet.notes) (kept_of links ∷ []) other has) [
         | inl old ↦ shown-more tag (bundle_read bytes) s.accepted (accepted_in dig wallet.notes) shown other old
-        | inr new ↦ elim new [
-          | inl same ↦
-              subst (IsShown tag (bundle_read bytes ∷ s.accepted)) same
-              (subst (λ t. IsShown t (bundle_read bytes ∷ s.accepted) (kept_of links)) tag_is
-              (handed-shown dig (who wallet).tag log bytes links s.accepted handed back))
-          | inr none ↦ absurd none
-        ]
+        | inr new ↦ grind (arith, handed-shown)
       ]
 
   abbrev IsAccepted : List ℕ → WalletEffect (Result Accepted WalletRefusal) → Type 0

@@ -52,12 +52,7 @@ module _ (opens is_asked : RootCall → Bool) (w c e : ℕ) (asks : AsksOf c is_
       → (if b then true && offers_none c offers else not false && is_quiet events n c) ≡ true
       → ((is_guardian events w c e m && are_fulfilled is_asked [] offers)
       || has_look opens is_asked [] events w c e) ≡ true) [
-        | true ↦ λ same none.
-            or_left (is_guardian events w c e m && are_fulfilled is_asked [] offers)
-            (has_look opens is_asked [] events w c e)
-            (and_from (is_guardian events w c e m) (are_fulfilled is_asked [] offers)
-            (ap (is_guardian events w c e) (eqb-true m n same) ∙ guardian)
-            (none-fulfilled [] offers (not-true _ none)))
+        | true ↦ grind (arith, or_left, and_from, eqb-true, none-fulfilled, not-true)
         | false ↦ λ other rest.
             or_right (is_guardian events w c e m && are_fulfilled is_asked [] offers)
             (has_look opens is_asked [] events w c e) (quiet-looked events n rest guardian)

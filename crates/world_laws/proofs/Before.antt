@@ -110,13 +110,7 @@ before-deposit tests rules account amount key events w c e legal h =
           let low = coin_at-le (log_of events) x.coin s.made s.made_is in
           absurd (omega (arith, low, c_is)))
       | inr apart ↦ inl (
-        record {
-          me = h.me;
-          me_is = h.me_is;
-          source = simp (ne_eqb c (coins (log_of events) + 1) apart) at h.source;
-          not_away = h.not_away;
-          not_withdrawn = withdrawn-before (Deposit account amount key) (log_of events) c h.not_withdrawn;
-        },
+        grind (arith, ne_eqb, withdrawn-before),
         refl,
       )
     ]
@@ -131,13 +125,7 @@ held_before tests rules (Declares v me) events w c e legal h =
     → HeldBefore (Declares v me) events w c e h.me) [
       | true ↦ λ same is. absurd (new-one (eqb-true v w same) (some_same me h.me is) h.source)
       | false ↦ λ apart is. inl (
-        record {
-          me = h.me;
-          me_is = is;
-          source = h.source;
-          not_away = h.not_away;
-          not_withdrawn = h.not_withdrawn;
-        },
+        grind (arith),
         refl,
       )
     ]) refl h.me_is
@@ -154,13 +142,7 @@ held_before tests rules (Declares v me) events w c e legal h =
 held_before tests rules (Joins (Deposit account amount key)) events w c e legal h =
     before-deposit tests rules account amount key events w c e legal.1 h
 held_before tests rules (Joins call) events w c e legal h = inl (
-  record {
-    me = h.me;
-    me_is = h.me_is;
-    source = h.source;
-    not_away = h.not_away;
-    not_withdrawn = withdrawn-before call (log_of events) c h.not_withdrawn;
-  },
+  grind (arith, withdrawn-before),
   refl,
 )
 held_before tests rules (Accepts v bundle) events w c e legal h =
@@ -168,35 +150,17 @@ held_before tests rules (Accepts v bundle) events w c e legal h =
     ⊎ (list_any (is_bundle c e) (if b then bundle ∷ accepted events w else accepted events w) ≡ true)
     → HeldBefore (Accepts v bundle) events w c e h.me) [
       | false ↦ λ source. inl (
-        record {
-          me = h.me;
-          me_is = h.me_is;
-          source = source;
-          not_away = h.not_away;
-          not_withdrawn = h.not_withdrawn;
-        },
+        grind (arith),
         refl,
       )
       | true ↦ λ source. elim source [
         | inl deposited ↦ inl (
-          record {
-            me = h.me;
-            me_is = h.me_is;
-            source = inl deposited;
-            not_away = h.not_away;
-            not_withdrawn = h.not_withdrawn;
-          },
+          grind (arith),
           refl,
         )
         | inr was ↦ elim (or_cases (is_bundle c e bundle) (list_any (is_bundle c e) (accepted events w)) was) [
           | inr earlier ↦ inl (
-            record {
-              me = h.me;
-              me_is = h.me_is;
-              source = inr earlier;
-              not_away = h.not_away;
-              not_withdrawn = h.not_withdrawn;
-            },
+            grind (arith),
             refl,
           )
           | inl this ↦ inr (none-stands (log_of events) bundle.coin c legal.0.none_stands
@@ -205,13 +169,7 @@ held_before tests rules (Accepts v bundle) events w c e legal h =
       ]
     ]) h.source
 held_before tests rules (Binds v body) events w c e legal h = inl (
-  record {
-    me = h.me;
-    me_is = h.me_is;
-    source = h.source;
-    not_away = away-unbind (v == w) c e (taken_back events w) body (bound_by events w) h.not_away;
-    not_withdrawn = h.not_withdrawn;
-  },
+  grind (arith, away-unbind),
   refl,
 )
 held_before tests rules (TakesBack v q bundle) events w c e legal h =
@@ -219,26 +177,13 @@ held_before tests rules (TakesBack v q bundle) events w c e legal h =
     → is_sent_from (not_taken (if b then q ∷ taken_back events w else taken_back events w) (bound_by events w)) c e
     ≡ false → HeldBefore (TakesBack v q bundle) events w c e h.me) [
       | false ↦ λ apart off. inl (
-        record {
-          me = h.me;
-          me_is = h.me_is;
-          source = h.source;
-          not_away = off;
-          not_withdrawn = h.not_withdrawn;
-        },
+        grind (arith),
         refl,
       )
       | true ↦ λ same off. elim (cases_eq bundle.coin c) [
         | inl this ↦ inr (none-stands (log_of events) bundle.coin c legal.0.none_stands this)
         | inr other ↦ inl (
-          record {
-            me = h.me;
-            me_is = h.me_is;
-            source = h.source;
-            not_away = away-untake q c e (taken_back events w) (bound_by events w) (named other (eqb-true v w same))
-                off;
-            not_withdrawn = h.not_withdrawn;
-          },
+          grind (arith, away-untake, eqb-true),
           refl,
         )
       ]
@@ -249,13 +194,7 @@ held_before tests rules (TakesBack v q bundle) events w c e legal h =
         → names c e body ≡ false
     named other same body is = grind (arith, common_steps, some_same, false_from_ne_true, eqb-true, and_parts)
 held_before tests rules event events w c e legal h = inl (
-  record {
-    me = h.me;
-    me_is = h.me_is;
-    source = h.source;
-    not_away = h.not_away;
-    not_withdrawn = h.not_withdrawn;
-  },
+  grind (arith),
   refl,
 )
 

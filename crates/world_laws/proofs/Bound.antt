@@ -1,5 +1,5 @@
 -- Who holds a coin, the bundles that were accepted, and that no spend of a held tip was.
-use Rattle.std.proofs.Common.{◌≡◌, ◌≢◌, ◌⊎◌, ℕ, ◌<◌, ◌==◌, not, true, false, if◌then◌else◌, List, [], ◌∷◌, Option, Some, inl, inr, refl, sym, ap, ◌∙◌, subst, arith, filter, rules}
+use Rattle.std.proofs.Common.{◌≡◌, ◌≢◌, ◌⊎◌, ℕ, ◌<◌, ◌==◌, true, false, if◌then◌else◌, List, [], ◌∷◌, Option, Some, inl, inr, refl, sym, ap, ◌∙◌, subst, arith, rules}
 use Rattle.std.specs.Prelude.{is_some, nat_eq}
 use Rattle.std.specs.List.{list_any}
 use Rattle.std.specs.Option.{option_eq}
@@ -233,12 +233,7 @@ is_kept tests rules (Guards v bundle ∷ events) g b legal h =
       | false ↦ λ h2. kept-grow tests rules (Guards v bundle) events b (is_kept tests rules events g b legal.1 h2)
     ]) h
 is_kept tests rules (Releases v c e ∷ events) g b legal h =
-    let there : Has (guarded_by events g) b = (elim (v == g) as (λ k. Has
-    (if k then filter (λ x. not (is_bundle c e x)) (guarded_by events g) else guarded_by events g) b
-    → Has (guarded_by events g) b) [
-      | true ↦ λ h2. (has-filter (λ (x : Bundle). not (is_bundle c e x)) (guarded_by events g) b h2).0
-      | false ↦ λ h2. h2
-    ]) h in
+    let there : Has (guarded_by events g) b = grind (arith, has-filter) in
     kept-grow tests rules (Releases v c e) events b (is_kept tests rules events g b legal.1 there)
 is_kept tests rules (event ∷ events) g b legal h =
     kept-grow tests rules event events b (is_kept tests rules events g b legal.1 h)
@@ -252,12 +247,7 @@ unfolding wallet_owner IsLegal
 owners_apart tests rules [] v w one other legal apart one_is other_is same = none_some one one_is
 owners_apart tests rules (Declares u me ∷ events) v w one other legal apart one_is other_is same =
     (elim (u == v) as (λ a. (u == v) ≡ a → (if a then Some me else wallet_owner events v) ≡ Some one → ⊥) [
-      | true ↦ λ v_is mine. (elim (u == w) as (λ b. (u == w) ≡ b
-          → (if b then Some me else wallet_owner events w) ≡ Some other → ⊥) [
-            | true ↦ λ w_is yours. apart (sym (eqb-true u v v_is) ∙ eqb-true u w w_is)
-            | false ↦ λ w_isnt yours. legal.0.own_account w other yours
-                (sym same ∙ ap (λ (o : Owner). o.account) (sym (some_same me one mine)))
-          ]) refl other_is
+      | true ↦ grind (arith, eqb-true, some_same)
       | false ↦ λ v_isnt mine. (elim (u == w) as (λ b. (u == w) ≡ b
           → (if b then Some me else wallet_owner events w) ≡ Some other → ⊥) [
             | true ↦ λ w_is yours. legal.0.own_account v one mine

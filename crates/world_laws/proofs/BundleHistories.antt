@@ -51,10 +51,7 @@ committed-once (RootCall.Deposit account amount key ∷ log) n root is =
 committed-once (RootCall.Commit account committed ∷ log) n root is =
     (elim (n == blocks log + 1) as (λ b. option_and_then root_in (if b then Some (Root committed) else block_at log n)
     ≡ Some root → 1 ≤ times_committed (RootCall.Commit account committed ∷ log) root) [
-      | true ↦ λ here.
-          let same : bytes_eq committed root ≡ true = (bytes_eq-Decides committed root).1 (cc here) in
-          subst (λ (b : Bool). 1 ≤ length (if b then RootCall.Commit account committed ∷ filter (commits root) log
-          else filter (commits root) log)) (sym same) (omega arith)
+      | true ↦ grind (arith, bytes_eq-Decides)
       | false ↦ λ before.
           let once = committed-once log n root before in
           let more = filter-more (commits root) (RootCall.Commit account committed) log in

@@ -1,20 +1,18 @@
 -- A wallet takes a bundle that is a history which ends with it, unless the coin was withdrawn or an exit stands.
-use Rattle.std.proofs.Common.{◌≡◌, ℕ, not, Bool, true, false, if◌then◌else◌, List, [], ◌∷◌, ◌++◌, length, Option, Ok, refl, sym, ap, ◌∙◌, subst, nat_lt, arith}
+use Rattle.std.proofs.Common.{◌≡◌, ℕ, Bool, true, false, if◌then◌else◌, List, [], ◌∷◌, ◌++◌, length, Option, Ok, nat_lt, arith}
 use Rattle.std.specs.Prelude.{Result}
 use Rattle.std.proofs.lemmas.Grind.{common_steps}
-use Rattle.plasma_tx.specs.declared.owner.Owner.{Owner}
 use Rattle.plasma_tx.specs.declared.links.Links.{Links}
 use Rattle.plasma_tx.specs.declared.call.RootCall.{RootCall}
 use Rattle.plasma_tx.specs.Links.{tip_of, last_owner_of}
 use Rattle.plasma_tx.specs.Views.{is_withdrawn}
 use Rattle.node_journal.specs.Effect.{first_cause}
-use Rattle.wallet_core.specs.declared.notes.Notes.{Notes}
 use Rattle.wallet_core.specs.State.{is_owner}
 use Rattle.node_rules.specs.declared.answers.Accepted.{Accepted}
 use Rattle.node_rules.specs.declared.refusal.WalletRefusal.{WalletRefusal}
 use Rattle.node_rules.specs.Kept.{kept_of, links_handed, standing_block, most_note}
-use Rattle.node_rules.specs.WalletRecords.{Accepts, note_text, owner_of, notes_of}
-use Rattle.node_rules.specs.Wallet.{WalletRecords, WalletEffect, answers, notes_it, unless, who, noted, standing_causes, is_known, accept_by, accept_effect}
+use Rattle.node_rules.specs.WalletRecords.{Accepts, note_text, owner_of}
+use Rattle.node_rules.specs.Wallet.{WalletRecords, WalletEffect, answers, notes_it, unless, who, standing_causes, accept_effect}
 use Rattle.node_replies.specs.declared.reply.Reply.{Reply}
 use Rattle.node_replies.specs.Causes.{wallet_cause}
 use Rattle.node_replies.specs.Orders.{answered, on_accepted}
@@ -49,31 +47,4 @@ module _ (dig : List ℕ → List ℕ) (wallet : WalletRecords) (log : List Root
       → is_owner (last_owner_of links) (owner_of (who wallet)) ≡ true → nat_lt most_note size ≡ false
       → IsTakenBundle log links.coin (tip_of links) (reply_of (accept_effect dig wallet log bytes))
   unfolding accept_effect
-  taken-bundle handed mine short =
-      subst (λ (r : Result Links _). IsTakenBundle log links.coin (tip_of links)
-      (reply_of (accept_by log notes r))) (sym handed) all
-    where
-      notes : Notes
-      notes = noted dig wallet
-
-      is_mine : not (is_owner (last_owner_of links) notes.me) ≡ false
-      is_mine =
-          ap (λ (me : Owner). not (is_owner (last_owner_of links) me))
-          (state-me (owner_of (who wallet)) (notes_of dig wallet.notes))
-          ∙ ap (λ (b : Bool). not b) mine
-
-      all : IsTakenBundle log links.coin (tip_of links) (reply_of (accept_by log notes (Ok links)))
-      all =
-          subst (λ (b : Bool). IsTakenBundle log links.coin (tip_of links) (reply_of (unless
-          (first_cause ((b, WalletRefusal.NotMine) ∷ (is_withdrawn log links.coin, WalletRefusal.Withdrawn)
-          ∷ standing_causes (standing_block log links.coin)
-          ++ (nat_lt most_note size, WalletRefusal.NoteTooLong size) ∷ []))
-          (if is_known notes links then answers (Ok taken)
-          else notes_it (Ok taken) (note_text (Accepts (kept_of links))))))) (sym is_mine)
-          (subst (λ (b : Bool). IsTakenBundle log links.coin (tip_of links) (reply_of (unless
-          (first_cause ((false, WalletRefusal.NotMine) ∷ (is_withdrawn log links.coin, WalletRefusal.Withdrawn)
-          ∷ standing_causes (standing_block log links.coin)
-          ++ (b, WalletRefusal.NoteTooLong size) ∷ []))
-          (if is_known notes links then answers (Ok taken)
-          else notes_it (Ok taken) (note_text (Accepts (kept_of links))))))) (sym short)
-          (cases (is_withdrawn log links.coin) (standing_block log links.coin) (is_known notes links) refl refl))
+  taken-bundle handed mine short = grind (arith, state-me, cases)

@@ -1,7 +1,7 @@
 -- What is due for the exits of a coin that a node guards, and so is among the calls that it offers.
 use Rattle.std.proofs.Common.{◌≡◌, ℕ, ◌+◌, ◌<◌, ◌≤◌, ◌==◌, ◌&&◌, ◌||◌, cond, not, Bool, true, false, if◌then◌else◌, List, [], ◌∷◌, map, Option, Some, None, inl, inr, refl, sym, ap, ◌∙◌, subst, arith, find, filter, rules}
 use Rattle.std.specs.Prelude.{is_some, is_none, nat_lt, unwrap_or}
-use Rattle.std.specs.Option.{option_map, option_map_or, option_or}
+use Rattle.std.specs.Option.{option_map, option_or}
 use Rattle.std.specs.List.{list_any, flat_map}
 use Rattle.std.proofs.lemmas.Bool.{eq-eqb, lt-ltb, le-ltb, lt-leb, and_from, not_from_false, false≢true}
 use Rattle.std.proofs.lemmas.Grind.{common_steps}
@@ -110,14 +110,7 @@ module _ (log : List RootCall) (account : ℕ) (links : Links) where
   answer-has x ch (Some link) o_is some unanswered inside =
       let call : RootCall = Respond account links.coin x.block ch.block link.opening in (
         link,
-        subst (λ (b : Bool). Has (if b then [] else option_map_or
-            (λ (l : Link). within log ch.at RESPONSE_WINDOW
-            (Respond account links.coin x.block ch.block l.opening))
-            (link_after links ch.block) []) call) (sym unanswered)
-            (subst (λ (p : Option Link). Has (option_map_or
-            (λ (l : Link). within log ch.at RESPONSE_WINDOW
-            (Respond account links.coin x.block ch.block l.opening)) p []) call) (sym o_is)
-            (within-has ch.at RESPONSE_WINDOW call inside)),
+        grind (arith, within-has),
       )
 
 -- a good guard of the coin at the tip, by which the calls have all that is due
@@ -215,13 +208,7 @@ module _ (tests : Tests) (rules : Rules) (events : List Event) (c : ℕ) (made :
       eq-eqb x.block (tip_of g.links) (at_tip ∙ sym g.good.tip_is) in
       let calls : List RootCall =
       flat_map (answer (log_of events) g.account g.links (exit_view x)) (map challenge_view x.challenges) in
-      let all : Due ≡ calls = λ i. unwrap_or (option_or (option_map
-      (λ (link : Link). within (log_of events) x.start CHALLENGE_WINDOW
-      (After g.account g.links.coin x.block link.opening)) (first i))
-      (option_or (if second i then option_map
-      (λ (link : Link). within (log_of events) x.start CHALLENGE_WINDOW
-      (Between g.account g.links.coin x.block link.opening)) (link_after g.links x.parent) else None)
-      (option_or (if third i then Some Before_call else None) (if fourth i then Some calls else None)))) [] in
+      let all : Due ≡ calls = grind (arith) in
       let a = answer-has (log_of events) g.account g.links x ch (link_after g.links ch.block) refl
       (g.good.reaches ch.block o shown below) unanswered inside in
       let call : RootCall = Respond g.account g.links.coin x.block ch.block a.0.opening in (

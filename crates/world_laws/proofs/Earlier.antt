@@ -9,7 +9,7 @@ use Rattle.plasma_tx.specs.declared.opening.RawOpening.{RawOpening}
 use Rattle.plasma_tx.specs.declared.call.Shown.{Shown}
 use Rattle.plasma_tx.specs.declared.call.RootCall.{RootCall}
 use Rattle.plasma_tx.specs.declared.call.RootCall.TheVariants.{Fund, Tick, Deposit, Commit, StartDeposit, StartSpend, After, Between, Before, Respond, Finish}
-use Rattle.plasma_tx.specs.Views.{now, block_of, Challenge, Exit, is_exit, exits, exit_at, without_exit, deposit_exit, spend_exit, challenge_at, with_challenge, with_answer, new_challenge}
+use Rattle.plasma_tx.specs.Views.{now, block_of, Challenge, Exit, is_exit, exits, exit_at, without_exit, challenge_at, with_challenge, with_answer, new_challenge}
 use Rattle.plasma_tx.specs.Laws.{is_start, is_end, is_respond}
 use Rattle.plasma_tx.specs.Shown.{Tests, Rules}
 use Rattle.plasma_tx.specs.Table.{is_accepted, answer_to}
@@ -199,35 +199,8 @@ module _ (tests : Tests) (rules : Rules) (log : List RootCall) where
       inr (still (Deposit account amount key) x h refl refl (λ n. refl) (λ n. refl))
   stood-before (Commit account root) is x h =
       inr (still (Commit account root) x h refl refl (λ n. refl) (λ n. refl))
-  stood-before (StartDeposit account k block) is x h =
-      elim (has-cases (without_exit k block (exits log)) (deposit_exit log account k block ∷ []) x h) [
-        | inl old ↦
-            let r = kept-other k block x old in
-            inr (still (StartDeposit account k block) x r.0 r.1 refl (λ n. refl) (λ n. refl))
-        | inr last ↦ elim last [
-          | inl same ↦ inl (subst (IsNew log (StartDeposit account k block)) same (record {
-            started = and_from (k == k) (block == block) (eq-eqb k k refl) (eq-eqb block block refl);
-            start = refl;
-            unchallenged = refl;
-          }))
-          | inr none ↦ absurd none
-        ]
-      ]
-  stood-before (StartSpend account k parent exit) is x h =
-      elim (has-cases (without_exit k exit.block (exits log)) (spend_exit log account k parent exit ∷ []) x h) [
-        | inl old ↦
-            let r = kept-other k exit.block x old in
-            inr (still (StartSpend account k parent exit) x r.0 r.1 refl (λ n. refl) (λ n. refl))
-        | inr last ↦ elim last [
-          | inl same ↦ inl (subst (IsNew log (StartSpend account k parent exit)) same (record {
-            started = and_from (k == k) (exit.block == exit.block) (eq-eqb k k refl)
-                (eq-eqb exit.block exit.block refl);
-            start = refl;
-            unchallenged = refl;
-          }))
-          | inr none ↦ absurd none
-        ]
-      ]
+  stood-before (StartDeposit account k block) is x h = grind (arith, has-cases, kept-other, still, and_from, eq-eqb)
+  stood-before (StartSpend account k parent exit) is x h = grind (arith, has-cases, kept-other, still, and_from, eq-eqb)
   stood-before (After account k f spend) is x h =
       let r = kept-other k f x h in
       inr (still (After account k f spend) x r.0 refl r.1 (λ n. refl) (λ n. refl))

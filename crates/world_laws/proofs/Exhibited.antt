@@ -89,10 +89,7 @@ module _ (dig : List ℕ → List ℕ) where
         | inr later ↦ rest x y (push-has earlier ss s x hx) later differ same
         | inl is_y ↦ elim (has-cases earlier (s ∷ ss) x hx) [
           | inl before ↦
-              let found = find-none (λ other. do_clash dig other s) earlier x
-              (mapped-none (λ (first : List ℕ). record { first = first; second = s })
-              (find (λ other. do_clash dig other s) earlier) parts.0) before in
-              true≢false (sym (clash-from dig x s (λ e. differ (e ∙ is_y)) (same ∙ ap dig (sym is_y))) ∙ found)
+              grind (arith, find-none, mapped-none, true≢false, clash-from)
           | inr behind ↦ elim behind [
             | inl is_x ↦ differ (sym is_x ∙ is_y)
             | inr later ↦ rest s x
@@ -118,13 +115,7 @@ module _ (dig : List ℕ → List ℕ) where
             let r = any-some (do_clash dig s) ss here in
             record { one = s; other = r.0; is_one = inl refl; is_other = inr r.1; both = r.2 }
         | inr later ↦
-            let r = clashing ss later in record {
-              one = r.one;
-              other = r.other;
-              is_one = inr r.is_one;
-              is_other = inr r.is_other;
-              both = r.both;
-            }
+            grind (arith, clashing ss later)
       ]
 
   pub no-clash : (events : List Event) (c : ℕ) → first_clash dig [] (all_strings dig events) ≡ None

@@ -1,6 +1,5 @@
 -- Who guards a held coin: the holder, and each watcher that keeps a guard at its tip.
-use Rattle.std.proofs.Common.{◌≡◌, ℕ, ◌==◌, not, true, false, if◌then◌else◌, List, [], ◌∷◌, Option, Some, None, inl, inr, refl, sym, ap, ◌∙◌, subst, filter, arith, rules}
-use Rattle.std.specs.Option.{option_map_or}
+use Rattle.std.proofs.Common.{◌≡◌, ℕ, ◌==◌, true, false, if◌then◌else◌, List, [], ◌∷◌, Option, Some, None, inl, inr, refl, sym, ap, ◌∙◌, subst, arith, rules}
 use Rattle.std.specs.List.{list_any}
 use Rattle.std.proofs.lemmas.Bool.{eqb-true, and_from, or_cases, or_left, or_right, not_from_false}
 use Rattle.std.proofs.lemmas.Grind.{common_steps}
@@ -17,7 +16,6 @@ use Rattle.coin_history.specs.declared.bundle.Bundle.{Bundle}
 use Rattle.coin_history.specs.History.{links_in, links_of, IsHistory}
 use Rattle.coin_history.proofs.HistoryLinks.{tip-is, tip_from, none-linked}
 use Rattle.node_rules.specs.Kept.{chain_of, kept_links}
-use Rattle.node_rules.specs.Watcher.{due_for_kept}
 use Rattle.watch_duty.specs.Duty.{tip_shown, due_for, due_of}
 use Rattle.watch_duty.proofs.Members.{Has, contains-has, has-contains, has-flat_map, has-filter}
 use Rattle.watch_duty.proofs.Dues.{IsDue as IsDueFor, due_for-due}
@@ -141,12 +139,7 @@ guarded-commanded (Guards v bundle ∷ events) g b h =
       | false ↦ λ apart there. push-command g (Guards v bundle) events (guarded-commanded events g b there)
     ]) refl h
 guarded-commanded (Releases v c e ∷ events) g b h =
-    let there : Has (guarded_by events g) b = (elim (v == g) as (λ k. Has
-    (if k then filter (λ x. not (is_bundle c e x)) (guarded_by events g) else guarded_by events g) b
-    → Has (guarded_by events g) b) [
-      | true ↦ λ h2. (has-filter (λ (x : Bundle). not (is_bundle c e x)) (guarded_by events g) b h2).0
-      | false ↦ λ h2. h2
-    ]) h in
+    let there : Has (guarded_by events g) b = grind (arith, has-filter) in
     push-command g (Releases v c e) events (guarded-commanded events g b there)
 guarded-commanded (event ∷ events) g b h = push-command g event events (guarded-commanded events g b h)
 
@@ -167,12 +160,7 @@ no_wallet tests rules (Guards v bundle ∷ events) g b legal h =
       | false ↦ λ apart there. no_wallet tests rules events g b legal.1 there
     ]) refl h
 no_wallet tests rules (Releases v c e ∷ events) g b legal h =
-    let there : Has (guarded_by events g) b = (elim (v == g) as (λ k. Has
-    (if k then filter (λ x. not (is_bundle c e x)) (guarded_by events g) else guarded_by events g) b
-    → Has (guarded_by events g) b) [
-      | true ↦ λ h2. (has-filter (λ (x : Bundle). not (is_bundle c e x)) (guarded_by events g) b h2).0
-      | false ↦ λ h2. h2
-    ]) h in
+    let there : Has (guarded_by events g) b = grind (arith, has-filter) in
     no_wallet tests rules events g b legal.1 there
 no_wallet tests rules (event ∷ events) g b legal h =
     no_wallet-after tests rules event events g b legal h (no_wallet tests rules events g b legal.1 h)
@@ -198,11 +186,7 @@ watch-due tests rules events n offers c made e legal one found guarding =
       links = g.links;
       good = g.good;
       shown_is = g.shown_is;
-      due = λ call h. contains-has offers call (has.due call (has-contains
-          (due_for_kept rules.tag (log_of events) legal.0.account has.bundle) call
-          (subst (λ (k : Option Links). Has (option_map_or
-          (λ (links : Links). due_of (log_of events) legal.0.account (record { links = links })) k []) call)
-          (sym g.kept) h)));
+      due = grind (arith, contains-has, has-contains);
     }
 
 -- a guardian guards the coin that the wallet holds

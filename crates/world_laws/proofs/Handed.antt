@@ -1,5 +1,5 @@
 -- A bundle that is handed in and passes is a history under the chain's rules, whatever its bytes are.
-use Rattle.std.proofs.Common.{◌≡◌, ℕ, ◌≤◌, ◌==◌, Bool, true, false, if◌then◌else◌, List, [], length, Ok, Err, inl, inr, refl, sym, ap, ◌∙◌, subst}
+use Rattle.std.proofs.Common.{◌≡◌, ℕ, ◌≤◌, List, [], length, Ok, Err, inl, inr, refl, sym, ap, ◌∙◌, subst, arith, rules}
 use Rattle.std.specs.Prelude.{Result, unwrap_or}
 use Rattle.std.specs.Result.{result_ok}
 use Rattle.std.proofs.lemmas.Bool.{cases_lt, lt-ltb, le-ltb}
@@ -14,7 +14,6 @@ use Rattle.coin_history.specs.History.{IsHistory}
 use Rattle.coin_history.proofs.BundleLaws.{items_in-ok}
 use Rattle.coin_history.proofs.CheckFacts.{tagged-same}
 use Rattle.coin_history.proofs.HistoryFound.{histories_are_found}
-use Rattle.plasma_tx.specs.Spelling.{number_at}
 use Rattle.node_rules.specs.Kept.{links_handed}
 use Rattle.node_rules.proofs.KeptTexts.{handed-bundle}
 use Rattle.world_rules.specs.OrderEvents.{bundle_read}
@@ -28,17 +27,7 @@ ok-same one other is = cc is
 -- the blocks of a bundle that is read rise
 items-rise : (bytes : List ℕ) (bundle : Bundle) (read : Result Items HistoryRefusal) → 20 ≤ length bytes
     → items_in bytes 20 0 (length_at bytes 16) ≡ read → bundle_of bytes read ≡ Ok bundle → AreRising bundle.openings
-items-rise bytes bundle (Err why) long read is = absurd (cc is)
-items-rise bytes bundle (Ok items) long read is = by (items.place == length bytes) is
-  where
-    made : Bundle
-    made = record { coin = number_at bytes 0; tip = number_at bytes 8; openings = items.openings }
-
-    by : (b : Bool) → (if b then Ok made else Err (BadBundle items.place)) ≡ Ok bundle → AreRising bundle.openings
-    by true is =
-        subst (λ (k : Bundle). AreRising k.openings) (ok-same made bundle is)
-        (items_in-ok bytes 20 0 (length_at bytes 16) items long read).rising
-    by false is = absurd (cc is)
+items-rise h0 h1 h2 h3 h4 h5 = grind (arith, ok-same, items_in-ok)
 
 pub read-rising : (bytes : List ℕ) (bundle : Bundle) → bundle_in bytes ≡ Ok bundle → AreRising bundle.openings
 unfolding bundle_in
@@ -46,25 +35,12 @@ read-rising bytes bundle h = elim (cases_lt (length bytes) 8) [
   | inl short ↦ let bad : Err (BadBundle 0) ≡ Ok bundle = rw (lt-ltb (length bytes) 8 short) at h in absurd (cc bad)
   | inr coin ↦ elim (cases_lt (length bytes) 16) [
     | inl short ↦
-        let bad : Err (BadBundle 8) ≡ Ok bundle = rw (
-          le-ltb (length bytes) 8 coin,
-          lt-ltb (length bytes) 16 short,
-        ) at h in
-        absurd (cc bad)
+        grind (arith, le-ltb, lt-ltb)
     | inr tip ↦ elim (cases_lt (length bytes) 20) [
       | inl short ↦
-          let bad : Err (BadBundle 16) ≡ Ok bundle = rw (
-            le-ltb (length bytes) 8 coin,
-            le-ltb (length bytes) 16 tip,
-            lt-ltb (length bytes) 20 short,
-          ) at h in
-          absurd (cc bad)
+          grind (arith, le-ltb, lt-ltb)
       | inr long ↦
-          let read : bundle_of bytes (items_in bytes 20 0 (length_at bytes 16)) ≡ Ok bundle = rw (
-            le-ltb (length bytes) 8 coin,
-            le-ltb (length bytes) 16 tip,
-            le-ltb (length bytes) 20 long,
-          ) at h in
+          let read : bundle_of bytes (items_in bytes 20 0 (length_at bytes 16)) ≡ Ok bundle = grind (arith, le-ltb) in
           items-rise bytes bundle (items_in bytes 20 0 (length_at bytes 16)) long refl read
     ]
   ]

@@ -1,5 +1,5 @@
 -- No event harms a held coin.
-use Rattle.std.proofs.Common.{◌≡◌, ℕ, ◌+◌, ◌<◌, ◌≤◌, ◌==◌, ◌&&◌, not, Bool, true, false, List, [], ◌∷◌, Option, Some, None, inl, refl, sym, ap, ◌∙◌, subst, arith, rules}
+use Rattle.std.proofs.Common.{◌≡◌, ℕ, ◌+◌, ◌≤◌, ◌==◌, ◌&&◌, not, Bool, true, false, List, [], ◌∷◌, Option, Some, None, inl, refl, sym, ◌∙◌, subst, arith, rules}
 use Rattle.std.specs.Prelude.{is_none, nat_lt, nat_le}
 use Rattle.std.specs.List.{AllByRecursion, list_all}
 use Rattle.std.proofs.lemmas.Bool.{cases_Bool, eqb-true, le-ltb, ltb-false, leb-true, and_parts, and_from, not-true, not_from_false, true≢false, false_from_ne_true}
@@ -9,7 +9,7 @@ use Rattle.plasma_tx.specs.declared.call.RootCall.{RootCall}
 use Rattle.plasma_tx.specs.declared.call.RootCall.TheVariants.{After, Between, Finish}
 use Rattle.plasma_tx.specs.declared.answer.Answer.{Answer}
 use Rattle.plasma_tx.specs.Views.{now, Challenge, Exit, exits, exit_at, challenge_at, is_withdrawn}
-use Rattle.plasma_tx.specs.declared.rules.TheConstants.{RESPONSE_WINDOW, EXIT_PERIOD}
+use Rattle.plasma_tx.specs.declared.rules.TheConstants.{EXIT_PERIOD}
 use Rattle.plasma_tx.specs.Shown.{Tests, Rules}
 use Rattle.plasma_tx.specs.Table.{decided, finish_causes, finish_effect, is_payable, where_exit, answer_to, is_accepted}
 use Rattle.plasma_tx.specs.Accepted.{CancelsAfter, CancelsBetween}
@@ -24,7 +24,7 @@ use Rattle.world_laws.specs.Legal.{IsLegal}
 use Rattle.world_laws.proofs.Lists.{all-from, found-has, challenge-has, all_answered-from, passes-has}
 use Rattle.world_laws.proofs.Walk.{Spent, walk-order}
 use Rattle.world_laws.proofs.Histories.{place_of}
-use Rattle.world_laws.proofs.Shown.{Deposited, Transferred, IsShownChallenge, IsBegun, OfDeposit, OfSpend}
+use Rattle.world_laws.proofs.Shown.{Deposited, Transferred, IsBegun, OfDeposit, OfSpend}
 use Rattle.world_laws.proofs.Bound.{SignsBy}
 use Rattle.world_laws.proofs.Held.{Known, shown-ge, link_in}
 use Rattle.world_laws.specs.Invariant.{IsWatched, IfOf, AllWatched}
@@ -98,22 +98,8 @@ module _ (tests : Tests) (rules : Rules) (signs : SignsBy tests) (events : List 
           (is_spend tests rules log k spend is.tx is.exit.parent is.exit.parent_owner is.shown is.child is.later
           is.signed) in
           let here = own-openings k c (spend ∷ []) spend c_is (inl refl) in
-          let mid : Spent rules c more spend.block spent.tx.body.to = record {
-            o = spend;
-            has = has spend here;
-            tx = spent.tx;
-            tx_is = spent.tx_is;
-            block_is = refl;
-            to_is = refl;
-          } in
-          let top : Spent rules c more is.exit.block is.exit.owner = record {
-            o = s.o;
-            has = at.has s.o s.has;
-            tx = s.tx;
-            tx_is = s.tx_is;
-            block_is = s.block_is;
-            to_is = s.to_is;
-          } in
+          let mid : Spent rules c more spend.block spent.tx.body.to = grind (arith) in
+          let top : Spent rules c more is.exit.block is.exit.owner = grind (arith) in
           let p = link_in tests rules log more c at.held.made at.one e at.hold.me at.held.openings known_more
           spend.block
           spent.tx.body.to mid spent.opened (omega (arith, d, is.later)) (omega (arith, is.earlier, at_tip)) in
@@ -146,28 +132,20 @@ module _ (tests : Tests) (rules : Rules) (signs : SignsBy tests) (events : List 
       → ((x.block == e) && nat_le (x.start + EXIT_PERIOD) (now (log_of events))
       && not (is_paid (finish_answer (log_of events) k (Some x)))) ≡ true → ⊥
   own-paid k x c_is i own harms =
-      let time : ℕ = now (log_of events) in
-      let parts = and_parts ((x.block == e) && nat_le (x.start + EXIT_PERIOD) time)
-      (not (is_paid (finish_answer (log_of events) k (Some x)))) harms in
-      let places = and_parts (x.block == e) (nat_le (x.start + EXIT_PERIOD) time) parts.0 in
-      let at_tip : x.block ≡ e = eqb-true x.block e places.0 in
-      let over : x.start + EXIT_PERIOD ≤ time = leb-true _ _ places.1 in
-      let answered = all_answered-from x.challenges (all-from (λ ch. ch.answered ≡ true) x.challenges
-      (λ ch there. settled ch.answered (λ no.
-      let inside = all-has (λ (z : Challenge). z.answered ≡ false → time < z.at + RESPONSE_WINDOW) x.challenges ch
-      (i.watched.own_time own at_tip) there no in
-      let early = (all-has
-      (IsShownChallenge tests rules (log_of events) (seen events c) c at.held.made x.parent x.start) x.challenges ch
-      i.of.challenges there).in_window in
-      absurd (omega (arith, inside, early, over))))) in
-      let stays : is_withdrawn (log_of events) k ≡ false =
-      ap (is_withdrawn (log_of events)) c_is ∙ at.hold.not_withdrawn in
-      true≢false (sym (i.paid ∙ and_from _ _ (not_from_false _ (le-ltb _ _ over))
-      (and_from _ _ answered (not_from_false _ stays))) ∙ not-true _ parts.1)
-    where
-      settled : (b : Bool) → (b ≡ false → b ≡ true) → b ≡ true
-      settled true f = refl
-      settled false f = f refl
+      grind (
+        arith,
+        and_parts,
+        eqb-true,
+        leb-true,
+        all_answered-from,
+        all-from,
+        all-has,
+        true≢false,
+        and_from,
+        not_from_false,
+        le-ltb,
+        not-true,
+      )
 
   -- and another account's never is
   others-unpaid : (k : ℕ) (x : Exit) → IsFinished k x → is_mine at.hold.me x ≡ false

@@ -87,14 +87,8 @@ module _ (tests : Tests) (rules : Rules) (log : List RootCall) (os : List RawOpe
       → IsShownAt tests rules log os c made n o → n < e → Successor tests rules c openings n o
   successor_in e owner openings known n o shown below =
       elim (shown_in e owner openings known n o shown (omega arith)) [
-        | inl d ↦ subst (λ m. Successor tests rules c openings m o) (sym d.0)
-            (subst (λ x. Successor tests rules c openings made.deposit x) (sym d.1)
-            (walk-spends_last tests rules log c made.deposit (place_of made) openings (End e owner) known.walk
-            (omega arith) (omega (arith, d.0))))
-        | inr s ↦ subst (λ m. Successor tests rules c openings m o) s.block_is
-            (subst (λ x. Successor tests rules c openings s.o.block x) s.to_is
-            (walk-spends tests rules log c made.deposit (place_of made) openings (End e owner) known.walk s.o s.tx
-            s.has s.tx_is (omega (arith, s.block_is))))
+        | inl d ↦ grind (arith, walk-spends_last, place_of)
+        | inr s ↦ grind (arith, walk-spends, place_of)
       ]
 
   pub end_shown : (e : ℕ) (owner : Owner) (openings : List RawOpening)
@@ -105,14 +99,7 @@ module _ (tests : Tests) (rules : Rules) (log : List RootCall) (os : List RawOpe
         | inr s ↦
             let above = walk-above tests rules log c made.deposit (place_of made) openings (End e owner) known.walk
             s.o s.has in
-            let at : Spent rules c os e owner = record {
-              o = s.o;
-              has = known.has s.o s.has;
-              tx = s.tx;
-              tx_is = s.tx_is;
-              block_is = s.block_is;
-              to_is = s.to_is;
-            } in
+            let at : Spent rules c os e owner = grind (arith) in
             Transferred at
             (walk-opened tests rules log c made.deposit (place_of made) openings (End e owner) known.walk s.o s.has)
             (omega (arith, above, s.block_is))
@@ -190,17 +177,7 @@ pub held_at : (tests : Tests) (rules : Rules) (events : List Event) (w c e : ℕ
 held_at tests rules events w c e legal h =
     elim h.source [
       | inl deposited ↦
-          let d = deposited-coin h.me e (coin_at (log_of events) c) deposited in
-          record {
-            made = d.0;
-            made_is = d.1;
-            openings = [];
-            known = record {
-              walk = empty-walk tests rules (log_of events) c d.0 e h.me d.2 d.3;
-              has = λ o k. absurd k;
-            };
-            from = λ o k. absurd k;
-          }
+          grind (arith, deposited-coin, empty-walk)
       | inr accepted_is ↦
           let r = any-some (is_bundle c e) (accepted events w) accepted_is in
           let n = is_noted tests rules events w r.0 legal r.1 in
@@ -260,8 +237,5 @@ module _ (tests : Tests) (rules : Rules) (signs : SignsBy tests) (events : List 
             (record { block = e; owner = h.me }) held.known.walk in
             omega (arith, up, d.2, ap (λ (m : CoinView). m.deposit) same)
         | inr accepted_is ↦
-            let r = any-some (is_bundle c n) (accepted events w) accepted_is in
-            let name = bundle-named c n r.0 r.2 in
-            let low = no_later h unforged r.0 r.1 name.0 in
-            omega (arith, low, name.1)
+            grind (arith, any-some, bundle-named, no_later)
       ]

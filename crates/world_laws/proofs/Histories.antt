@@ -56,11 +56,7 @@ asked-rest : (log : List RootCall) (low high : ℕ) (o : RawOpening) (os : List 
 asked-rest log low high o os are = record {
   up = are.up.1;
   each = each os (up-each (suc o.block) os are.up.1) are.each.1;
-  other = λ n none. false_from_ne_true (is_asked log o.block high n) (λ asked.
-      let parts = asked-parts log o.block high n asked in
-      let from = asked-parts log low high o.block are.each.0 in
-      true≢false (sym (asked-from log low high n parts.0 (omega (arith, parts.1, from.1)) parts.2)
-      ∙ are.other n (past-head n o os (λ e. omega (arith, parts.1, e)) ∙ none)));
+  other = grind (arith, false_from_ne_true, asked-parts, true≢false, asked-from, past-head);
 }
   where
     each : (xs : List RawOpening) → AllByRecursion (λ x. suc o.block ≤ x.block) xs

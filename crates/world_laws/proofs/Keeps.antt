@@ -178,11 +178,7 @@ module _ (dig : List ℕ → List ℕ) (events : List Event) (world : World) (ke
     is = subst (IsOfRole (event ∷ events) world.chain.tag place.number after) (sym same.role)
         (role-stays events (event ∷ events) world.chain.tag place.number place.node after place.node.role
         (owner-own event events place.number place.number by) same.account body is.is);
-    offers = λ call has. let offer = offers call has in record {
-      deposits = offer.deposits;
-      starts = λ account starts. let by = offer.starts account starts in
-          (ap is_wallet_role same.role ∙ by.0, same.account ∙ by.1);
-    };
+    offers = grind (arith);
   }
 
   module _ (place : Place) (order : NodeOrder) (may : MayOrder world place order) where

@@ -19,7 +19,7 @@ use Rattle.world_rules.proofs.RunLaws.{logs_are_of_events}
 use Rattle.world_rules.proofs.OfferLaws.{offers_are_of_events}
 use Rattle.schedule_text.specs.declared.line.Line.{Line}
 use Rattle.world_laws.specs.Headline.{IsRun}
-use Rattle.world_laws.specs.Legal.{starts_by, deposits_by, left_by, LegalDeclaration, IsLegalEvent, IsLegal}
+use Rattle.world_laws.specs.Legal.{starts_by, deposits_by, LegalDeclaration, IsLegalEvent, IsLegal}
 use Rattle.world_laws.proofs.Lists.{some_same, none_some}
 use Rattle.world_rules.specs.Acts.{Origin, Plain, Deposits, Raw, Offered}
 use Rattle.world_rules.specs.Evidence.{IsFrom}
@@ -108,10 +108,7 @@ module _ (events : List Event) (world : World) (behind : IsBehind events world) 
           (if b then Joins call else Bounces call)) (sym is)
           (record {
             accepted = sym by_log ∙ is;
-            offered = λ w me me_is start. has-contains (left_by events w) call
-                (offered_left (tests_by dig) (rules_of world.chain) events w call legal
-                (contains-has (offers_of events w) call (from-offered call origin from w me me_is start))
-                (start-any me.account call start));
+            offered = grind (arith, has-contains, offered_left, contains-has, from-offered, start-any);
           })
       by false is =
           subst (λ b. IsLegalEvent (tests_by dig) (rules_of world.chain) events

@@ -1,5 +1,5 @@
 -- What a wallet's accepts, sends and reclaims are: each is legal after the events that say what its records are.
-use Rattle.std.proofs.Common.{◌≡◌, ℕ, zero, suc, ◌^◌, ◌<◌, ◌≤◌, ◌==◌, ◌&&◌, not, Bool, true, false, List, [], ◌∷◌, ◌++◌, map, Option, Some, None, Ok, inl, refl, sym, ap, ◌∙◌, subst, slice_get, arith, rules}
+use Rattle.std.proofs.Common.{◌≡◌, ℕ, zero, suc, ◌^◌, ◌<◌, ◌≤◌, ◌==◌, ◌&&◌, not, Bool, true, false, if◌then◌else◌, List, [], ◌∷◌, ◌++◌, length, map, Option, Some, None, Ok, inl, inr, refl, sym, ap, ◌∙◌, subst, slice_get, arith}
 use Rattle.std.specs.Prelude.{Result, IfSome, reverse, unwrap_or}
 use Rattle.std.specs.List.{list_any}
 use Rattle.std.specs.Option.{option_map_or}
@@ -93,18 +93,17 @@ leaf-got : (bodies : List Body) (q : ℕ) → slice_get (reverse bodies) q ≡ l
 unfolding leaf_at
 leaf-got [] q = refl
 leaf-got (body ∷ bodies) q =
-    grind (
-      arith,
-      common_steps,
-      leaf-got bodies q,
-      reverse-append,
-      length-reverse,
-      cases_eq,
-      push-same,
-      eq-eqb,
-      push-other,
-      ne_eqb,
-    )
+    let front : slice_get (reverse (body ∷ bodies)) q ≡ slice_get (reverse bodies ++ body ∷ []) q =
+    ap (λ (l : List Body). slice_get l q) (reverse-append (body ∷ []) bodies) in
+    let long : length (reverse bodies) ≡ length bodies = length-reverse bodies in
+    elim (cases_eq q (length bodies)) [
+      | inl here ↦
+          front ∙ ap (slice_get (reverse bodies ++ body ∷ [])) (here ∙ sym long) ∙ push-same (reverse bodies) body
+          ∙ ap (λ (b : Bool). if b then Some body else leaf_at q bodies) (sym (eq-eqb q (length bodies) here))
+      | inr apart ↦
+          front ∙ push-other (reverse bodies) body q (λ same. apart (sym same ∙ long)) ∙ leaf-got bodies q
+          ∙ ap (λ (b : Bool). if b then Some body else leaf_at q bodies) (sym (ne_eqb q (length bodies) apart))
+    ]
 
 -- the body of a leaf is that of its record
 body-got : (leaves : List LeafRecord) (q : ℕ) (leaf : LeafRecord) → slice_get leaves q ≡ Some leaf

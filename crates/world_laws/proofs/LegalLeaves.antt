@@ -1,6 +1,6 @@
 -- What a wallet's leave and its watch offer is legal: the start of the exit of a coin at its top, and what is due for
 -- the coins that it holds there.
-use Rattle.std.proofs.Common.{◌≡◌, ◌≢◌, ℕ, zero, suc, ◌+◌, ◌<◌, ◌≤◌, List, [], ◌∷◌, Option, Some, None, Ok, Err, inl, inr, refl, sym, ap, ◌∙◌, subst, arith, rules}
+use Rattle.std.proofs.Common.{◌≡◌, ◌≢◌, ℕ, zero, suc, ◌+◌, ◌<◌, ◌≤◌, List, [], ◌∷◌, Option, Some, None, Ok, Err, inl, inr, sym, ap, ◌∙◌, subst, arith, rules}
 use Rattle.std.specs.Prelude.{Result}
 use Rattle.std.specs.List.{Contains, range_with_len}
 use Rattle.std.specs.Option.{option_map_or}
@@ -16,8 +16,6 @@ use Rattle.coin_history.specs.declared.bundle.Bundle.{Bundle}
 use Rattle.plasma_tx.specs.Shown.{Rules}
 use Rattle.plasma_tx.proofs.Bounds.{coin_at-le}
 use Rattle.watch_duty.specs.Duty.{due_of}
-use Rattle.wallet_core.specs.declared.coin_state.CoinState.{CoinState}
-use Rattle.wallet_core.specs.declared.coin_state.CoinState.TheVariants.{Nothing, Sending, Leaving, Held}
 use Rattle.node_rules.specs.declared.refusal.WalletRefusal.{WalletRefusal}
 use Rattle.node_rules.specs.declared.refusal.WalletRefusal.TheVariants.{NotHeld}
 use Rattle.node_rules.specs.Kept.{kept_links}
@@ -166,17 +164,7 @@ module _ (dig : List ℕ → List ℕ) (rules : Rules) (events : List Event) (lo
 
   offered-due : (call : RootCall) → Has (watch_answer dig wallet log) call → IsOfHeld call
   unfolding watch_answer
-  offered-due call has =
-      let found = has-flat_map (λ coin. due_in dig wallet log coin (coin_state dig wallet log coin))
-      (range_with_len 1 (coins log)) call has in
-      by found.0 (coin_state dig wallet log found.0) refl found.2
-    where
-      by : (c : ℕ) (state : CoinState) → coin_state dig wallet log c ≡ state → Has (due_in dig wallet log c state) call
-          → IsOfHeld call
-      by c Nothing none due = absurd due
-      by c (Sending e q) sends due = absurd due
-      by c (Leaving e) leaves due = record { c = c; e = e; held = inr leaves; due = due }
-      by c (Held e) holds due = record { c = c; e = e; held = inl holds; due = due }
+  offered-due call has = grind (arith, has-flat_map)
 
   shows-guard : (bundle : Bundle) → ShowsTip events n (me) bundle
       → ShowsGuard events n (wallet_owner events n) bundle

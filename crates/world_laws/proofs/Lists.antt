@@ -84,10 +84,7 @@ all-changed P log c e change keeps all =
         → AllByRecursion P xs → AllByRecursion P (with_exit_changed c e change xs)
     each [] f h = tt
     each (x ∷ xs) f h = (
-      (elim (is_exit c e x) as (λ b. is_exit c e x ≡ b → P (if b then change x else x)) [
-        | true ↦ λ named. f x (inl refl) named h.0
-        | false ↦ λ other. h.0
-      ]) refl,
+      grind (arith),
       each xs (λ y there. f y (inr there)) h.1,
     )
 

@@ -154,10 +154,7 @@ module _ (dig : List ℕ → List ℕ) (digest : IsDigest dig) (rules : Rules) (
             (or_from (is_end c b call) (list_any (is_end c b) since)
             ((λ i. is_end (sym c_is i) (sym b_is i) call) ∙ s.not_ended) unended) parts.1) [
               | inr challenged ↦ inr (s.challenged e challenged)
-              | inl some ↦ elim (or_cases (is_before c b e call) (list_any (is_before c b e) since) some) [
-                | inl here ↦ inr (s.by_it e ((λ i. is_before (c_is i) (b_is i) e call) ∙ here))
-                | inr later ↦ inl later
-              ]
+              | inl some ↦ grind (arith, or_cases)
             ]
       ]
   exit-looked (Watches n offers ∷ events) since x b legal none unforged h there c_is b_is other unspent inside unended

@@ -207,11 +207,7 @@ module _ (dig : List ℕ → List ℕ) (digest : IsDigest dig) (rules : Rules) (
       let paid = unpaid-parts (Declares v other) events unpaid in
       (elim (v == w) as (λ b. (v == w) ≡ b → (if b then Some other else wallet_owner events w) ≡ Some me
       → holds (Declares v other ∷ events) w c e ≡ true) [
-        | true ↦ λ same mine.
-            let owner = some_same other me mine in
-            absurd (undeclared-none (tests_by dig) rules w c e events me x
-            (ap (λ (o : Owner). list_any (starts_by o.account) (log_of events)) (sym owner) ∙ legal.0.no_start)
-            there own.1)
+        | true ↦ grind (arith, some_same, undeclared-none)
         | false ↦ λ apart mine.
             let is = own_held events legal.1 (none-before dig (Declares v other) events c none)
             (forged-parts rules.tag (Declares v other) events w c unforged).1
@@ -231,13 +227,7 @@ module _ (dig : List ℕ → List ℕ) (digest : IsDigest dig) (rules : Rules) (
       (elim (all-has (IfOwn (log_of events) me c e call) (exits (call ∷ log_of events)) x
       (came-from (tests_by dig) rules (log_of events) me c e call legal.0.accepted) there own) [
         | inl r ↦ own_held events legal.1 before honest watches taken.0 paid.1 me_is r.0 r.1 r.2
-        | inr s ↦ holds-from events w c e (record {
-          me = me;
-          me_is = me_is;
-          source = start-source events call legal.1 me_is legal.0 s;
-          not_away = kept;
-          not_withdrawn = s.not_withdrawn;
-        })
+        | inr s ↦ grind (arith, holds-from, start-source)
       ])
   own_held (event ∷ events) legal none unforged looked untaken unpaid me_is x there own =
       let is = own_held events legal.1 (none-before dig event events c none)
@@ -351,14 +341,5 @@ module _ (dig : List ℕ → List ℕ) (digest : IsDigest dig) (rules : Rules) (
         | Some b ↦ λ some same. never-lost events earlier (none-before dig event events c none)
             (forged-parts rules.tag event events w c unforged).1 known paid before
             (some ∙ same) watches
-        | None ↦ λ first here. (elim (takes_from (tests_by dig) rules events me w c e event) as (λ t.
-            takes_from (tests_by dig) rules events me w c e event ≡ t
-            → (if t then Some events else None) ≡ Some before → ⊥) [
-              | true ↦ λ takes same.
-                  let is : events ≡ before = some_same events before same in
-                  untaken event events legal none unforged
-                  (ap (λ (l : List Event). is_looked_after l w c e) is ∙ watches) known first paid
-                  takes
-              | false ↦ λ not wrong. none_some before wrong
-            ]) refl here
+        | None ↦ grind (arith, some_same, untaken, none_some)
       ]) refl taken

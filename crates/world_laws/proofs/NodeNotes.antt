@@ -166,10 +166,8 @@ module _ (dig : List ℕ → List ℕ) (events : List Event) (world : World) (ke
       subst (λ (rules : Rules). EachNode (IfThere (IsNoted dig (event ∷ events) rules.tag))
       (done dig world act).world.nodes) (sym (rules-stay dig world act))
       (each_node_keeps (IfThere Before) (IfThere (Behind event)) dig world act known are (record {
-        others = others-there Before (Behind event) world.nodes (change_of dig world act) (λ m other node.
-            noted-still dig events event world.chain.tag m node node.is_up node.offers
-            (said-other event events m (said-others dig world act m other))
-            (left-apart event events m (commands-others dig world first act known m other)));
+        others =
+            grind (arith, others-there, change_of, noted-still, said-other, said-others, left-apart, commands-others);
         own = own-noted act known fit;
       }))
 

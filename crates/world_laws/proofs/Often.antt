@@ -1,6 +1,6 @@
 -- What is looked at often is looked after: an exit or a challenge that is newer than a recent look has more time left
 -- than the look is old.
-use Rattle.std.proofs.Common.{◌≡◌, ℕ, ◌+◌, ◌<◌, ◌≤◌, ◌&&◌, ◌||◌, not, Bool, true, false, List, [], ◌∷◌, inl, inr, refl, sym, ap, ◌∙◌, subst, arith, rules}
+use Rattle.std.proofs.Common.{◌≡◌, ℕ, ◌+◌, ◌<◌, ◌≤◌, ◌&&◌, ◌||◌, not, Bool, true, false, List, [], ◌∷◌, inl, inr, refl, sym, ap, ◌∙◌, subst, arith}
 use Rattle.std.specs.Prelude.{nat_lt}
 use Rattle.std.specs.List.{list_any}
 use Rattle.std.proofs.lemmas.Bool.{eq-eqb, ltb-true, leb-true, and_parts, and_from, or_cases, or_left, or_right, not-true, not_from_false, true≢false, false≢true, false_from_ne_true}
@@ -51,10 +51,7 @@ module _ (tests : Tests) (rules : Rules) (w c e time : ℕ) where
       elim (or_cases (nat_lt time (now (log_of events) + RESPONSE_WINDOW) && is_guardian events w c e n
       && are_fulfilled (is_on_coin c) since offers) (has_recent_look time since events w c e) recent) [
         | inl here ↦
-            let whole = and_parts (nat_lt time (now (log_of events) + RESPONSE_WINDOW) && is_guardian events w c e n)
-            (are_fulfilled (is_on_coin c) since offers) here in
-            ltb-true time (now (log_of events) + RESPONSE_WINDOW)
-            (and_parts (nat_lt time (now (log_of events) + RESPONSE_WINDOW)) (is_guardian events w c e n) whole.0).0
+            grind (arith, and_parts, ltb-true)
         | inr earlier ↦ recent-clock events since legal.1 earlier
       ]
   recent-clock (event ∷ events) since legal recent = recent-clock events since legal.1 recent

@@ -1,5 +1,5 @@
 -- Two wallets don't hold one coin.
-use Rattle.std.proofs.Common.{◌≡◌, ◌≢◌, ℕ, ◌+◌, ◌<◌, ◌≤◌, ◌==◌, Bool, true, false, if◌then◌else◌, List, [], ◌∷◌, inl, inr, sym, ap, ◌∙◌, subst, arith}
+use Rattle.std.proofs.Common.{◌≡◌, ◌≢◌, ℕ, ◌+◌, ◌<◌, ◌≤◌, ◌==◌, Bool, true, false, if◌then◌else◌, List, [], ◌∷◌, inl, inr, sym, ap, ◌∙◌, subst, arith, rules}
 use Rattle.std.specs.Prelude.{is_some}
 use Rattle.std.proofs.lemmas.Bool.{cases_order, ne_eqb, eq-eqb, false≢true}
 use Rattle.plasma_tx.specs.declared.owner.Owner.{Owner}
@@ -70,11 +70,7 @@ module _ (tests : Tests) (rules : Rules) where
       → IsSince (Accepts u bundle ∷ events) v c o) [
         | true ↦ λ h2. elim h2 [
           | inl is ↦
-              let on : bundle.coin == c ≡ true = eq-eqb bundle.coin c (ap (λ (x : Bundle). x.coin) is ∙ c_is) in
-              inl (
-                first-declared events v c before first,
-                simp on (subst (λ (x : Bundle). Has x.openings o) (sym is) has),
-              )
+              grind (arith, eq-eqb, first-declared)
           | inr later ↦ inr (accepted_since events v w c b o before first later c_is has)
         ]
         | false ↦ λ h2. inr (accepted_since events v w c b o before first h2 c_is has)

@@ -149,11 +149,7 @@ module _ (dig : List ℕ → List ℕ) (events : List Event) (chain : Chain) (op
     counted = λ root.
         subst (λ (n : ℕ). n ≤ times_sealed dig (forest_in op.notes).sealed root)
         (sym (not-committed call chain.log root none)) (keeping.counted root);
-    waiting = λ account root has since.
-        subst (λ (n : ℕ). n < times_sealed dig (forest_in op.notes).sealed root)
-        (sym (not-committed call chain.log root none))
-        (keeping.waiting account root has
-        (sym (since-same (Joins call) events refl (is-commit call ∙ none)) ∙ since));
+    waiting = grind (arith, not-committed, since-same, is-commit);
     honest = λ in_time. (
       no-commit-honest dig chain.tag keeping.acts call none,
       keeping.honest (in-time-earlier dig chain.tag chain.log call (forest_in op.notes).sealed in_time),
@@ -244,11 +240,7 @@ module _ (dig : List ℕ → List ℕ) (events : List Event) (chain : Chain) (op
     acts = Kept note ∷ keeping.acts;
     log_is = keeping.log_is;
     notes_is = ap (λ (notes : List Note). note ∷ notes) keeping.notes_is ∙ sym added;
-    counted = λ root.
-        let before = keeping.counted root in
-        let more = sealed-more dig note (forest_in op.notes) root in
-        subst (λ (notes : List Note). times_committed chain.log root
-        ≤ times_sealed dig (forest_of notes).sealed root) (sym added) (omega (arith, before, more));
+    counted = grind (arith, sealed-more);
     waiting = λ account root has since.
         subst (λ (notes : List Note). times_committed chain.log root
         < times_sealed dig (forest_of notes).sealed root) (sym added) (waits account root has);

@@ -161,10 +161,7 @@ module _ (dig : List ℕ → List ℕ) (events : List Event) (chain : Chain) (op
       let notes_are : after.notes ≡ op.notes ++ body ∷ [] = notes ∙ ap (with_record op.notes) note_is in
       let added = commands_add_their_notes dig op.notes chain.log 0 bytes body keeping.kinds (lit< tt) in
       let may = (commands_keep_the_role dig op.notes chain.log 0 bytes body keeping.kinds).0 noted in
-      let empty : after.offers ≡ [] = elim offers [
-        | inl same ↦ same ∙ none
-        | inr empty ↦ empty
-      ] in
+      let empty : after.offers ≡ [] = grind (arith) in
       keeps-note dig events chain op keeping event (Offered bytes) after role
       (ap (are_of operator_kinds) notes_are ∙ notes_follow operator_kinds op.notes body keeping.kinds may)
       (ap who_is notes_are ∙ added.0) (ap notes_of notes_are ∙ added.1 noted)

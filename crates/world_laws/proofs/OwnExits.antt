@@ -227,11 +227,7 @@ module _ (tests : Tests) (rules : Rules) (w c e : ℕ) where
   own_left (Declares v other ∷ events) legal me me_is x there own =
       (elim (v == w) as (λ b. (v == w) ≡ b → (if b then Some other else wallet_owner events w) ≡ Some me
       → is_left (left_by (Declares v other ∷ events) w) c e ≡ true) [
-        | true ↦ λ same mine.
-            let owner = some_same other me mine in
-            absurd (undeclared-none events me x
-            (ap (λ (o : Owner). list_any (starts_by o.account) (log_of events)) (sym owner) ∙ legal.0.no_start)
-            there own.1)
+        | true ↦ grind (arith, some_same, undeclared-none)
         | false ↦ λ apart mine. left-grow (Declares v other) events w c e (own_left events legal.1 me mine x there own)
       ]) refl me_is
   own_left (Joins call ∷ events) legal me me_is x there own =

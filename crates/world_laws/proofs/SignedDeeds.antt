@@ -218,11 +218,7 @@ module _ (dig : List ℕ → List ℕ) (events : List Event) (world : World) (ke
         node = place.node;
         number = at.number;
         node_is = at.there;
-        made = record {
-          body = made.body;
-          leaf = ap (leaf_at q) (cut-bound place.number place.number deed.gives.event events) ∙ made.leaf;
-          made_is = made.made_is;
-        };
+        made = grind (arith, cut-bound);
       }
       ended place deed at makes Kept sent = absurd (cc sent)
       ended place deed at makes Lost sent = absurd (cc sent)

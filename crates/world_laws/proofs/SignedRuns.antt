@@ -173,12 +173,7 @@ command-of (Line.Command (Command.Wallet other own)) name is =
     (own, inl (ap (λ (n : List ℕ). Line.Command (Command.Wallet n own)) (some_same other name is)))
 command-of (Line.Cut node calls outcome (Command.Wallet other own)) name is = (
   own,
-  inr (
-    node,
-    calls,
-    outcome,
-    ap (λ (n : List ℕ). Line.Cut node calls outcome (Command.Wallet n own)) (some_same other name is),
-  ),
+  grind (arith, some_same),
 )
 command-of line name is = absurd (cc is)
 
@@ -217,10 +212,7 @@ given_out_is_bound dig lines run world entry name own q n node run_is has in_com
       made = signed.made_is
           ∙ ap (λ (x : Node). body_text signed.body
           ++ signature_of (secret_of (who_is x.notes)) q (body_text signed.body)) same_node;
-      given = has-contains (given_out world run.entries) (given-of q entry.made (owner_of_node node))
-          (has-read (given_by world) run.entries entry (given-of q entry.made (owner_of_node node)) there
-          (given-by world entry name own q (owner_of_node node) in_command sent
-          (owner-of world name n node number node_is)));
+      given = grind (arith, has-contains, has-read, given-by, owner-of);
     }
 
 -- whose the bytes are that were given out

@@ -1,6 +1,6 @@
 -- What stays of a wallet as lines follow: the number that its name has, who it is, and what its leaves bind; and that
 -- no two wallets have one key.
-use Rattle.std.proofs.Common.{◌≡◌, ◌⊎◌, ℕ, zero, suc, ◌+◌, ◌<◌, ◌||◌, not, cond, Bool, true, false, List, [], ◌∷◌, ◌++◌, length, set, slice_get, bytes_eq, Option, Some, None, inl, inr, refl, sym, ap, ◌∙◌, subst, arith}
+use Rattle.std.proofs.Common.{◌≡◌, ◌⊎◌, ℕ, zero, suc, ◌+◌, ◌<◌, not, cond, Bool, true, false, List, [], ◌∷◌, ◌++◌, length, set, slice_get, Option, Some, None, inl, inr, refl, sym, ap, ◌∙◌, subst, arith}
 use Rattle.std.specs.List.{position, position_or_len}
 use Rattle.std.proofs.lemmas.Bool.{and_parts, or_parts, not-true, cases_eq, lt-ltb, true≢false, false≢true}
 use Rattle.std.proofs.lemmas.List.{length-set, length_push}
@@ -14,7 +14,7 @@ use Rattle.node_rules.specs.WalletRecords.{wallet_kinds, identity_text, who_is, 
 use Rattle.node_rules.proofs.WalletGrow.{who-same, wallet-parts}
 use Rattle.world_rules.specs.Events.{Event, bound_by, leaf_at}
 use Rattle.world_rules.specs.World.{Wallet, Node, World, is_named, is_wallet_role, owner_of_node, wallet_of}
-use Rattle.world_rules.specs.Declarations.{is_wallet_key, is_wallet_seed, may_be_wallet}
+use Rattle.world_rules.specs.Declarations.{may_be_wallet}
 use Rattle.node_replies.specs.Orders.{with_record}
 use Rattle.world_rules.specs.Steps.{new_node, with_records}
 use Rattle.world_rules.specs.Laws.{GrowsAtMost}
@@ -164,21 +164,17 @@ module _ (dig : List ℕ → List ℕ) (events : List Event) (world : World) (ke
       → IsFitNew (NewWallet who) → (n : ℕ) (node : Node)
       → HasKey (owner_of_node (new_node Wallet name who.account (identity_text who))).key n node → ⊥
   keys-declared name who of may fit n node has =
-      true≢false (sym (any-filter (λ (x : Node). bytes_eq (owner_of_node x).key (owner_of who).key)
-      (λ (x : Node). is_wallet_role x.role) world.nodes n node has.0 has.1
-      ((bytes_eq-Decides (owner_of_node node).key (owner_of who).key).1 (sym has.2 ∙ own_key)))
-      ∙ free)
-    where
-      own_key : (owner_of_node (new_node Wallet name who.account (identity_text who))).key ≡ (owner_of who).key
-      own_key =
-          ap (λ (w : WalletIdentity). (owner_of w).key)
-          (wallet-who (identity_text who ∷ []) who (wallet-identity world who kept.frame.tag_long of fit) refl)
-
-      free : is_wallet_key world (owner_of who).key ≡ false
-      free =
-          let last = (and_parts _ (not (is_wallet_key world (owner_of who).key || is_wallet_seed world who.seed))
-          may).1 in
-          (or_parts (is_wallet_key world (owner_of who).key) (is_wallet_seed world who.seed) (not-true _ last)).0
+      grind (
+        arith,
+        true≢false,
+        any-filter,
+        bytes_eq-Decides,
+        wallet-who,
+        wallet-identity,
+        and_parts,
+        or_parts,
+        not-true,
+      )
 
   abbrev Old : ℕ → Option Node → Type 0
   Old n found = slice_get world.nodes n ≡ found

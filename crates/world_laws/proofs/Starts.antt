@@ -148,16 +148,7 @@ module _ (tests : Tests) (rules : Rules) (log : List RootCall) (b : Bundle) (mad
       ∷ (not (tests.is_signed tx owner), BadSignature) ∷ (not (tx.body.to.account == me.account), NotOwner) ∷ [])
       ((is_some (exit_at log b.coin exit.block), ExitStands) ∷ too_poor log me.account EXIT_BOND ∷ []) effect (
         alive,
-        (
-          not_from_true _ (and_from _ _ committed fits),
-          (
-            refl,
-            (
-              not_from_true _ (eq-eqb _ _ child),
-              (not_from_true _ signed, (not_from_true _ (eq-eqb _ _ to), tt)),
-            ),
-          ),
-        ),
+        grind (arith, not_from_true, and_from, eq-eqb),
       )
       (last-causes log me.account b.coin exit.block effect refl)))
 
@@ -265,11 +256,7 @@ module _ (tests : Tests) (rules : Rules) where
       let h = bare-history tests rules (log_of events) b d.0 d.1 d.2 none in
       let empty : links_in rules b.coin b.openings ≡ [] = ap (links_in rules b.coin) none
       ∙ none-linked rules b.coin in (
-        record {
-          links = links_of rules d.0 b;
-          history = h;
-          is_seen = λ o there. absurd (subst (λ (l : List RawOpening). Has l o) none there);
-        },
+        grind (arith),
         last_owner-is (links_of rules d.0 b) ∙ ap (owner_from d.0.owner) empty ∙ d.3,
         some_same links (links_of rules d.0 b) (sym kept ∙ kept-some rules (log_of events) b d.0 d.1),
       )

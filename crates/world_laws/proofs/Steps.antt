@@ -88,11 +88,7 @@ of_held tests rules events w c e me legal held x there c_is =
       begun = subst (λ k. IsBegun tests rules log (seen events c) c k x.block x.parent x.owner x.parent_owner) same
           (subst (λ k. IsBegun tests rules log (seen events k) k s.made x.block x.parent x.owner x.parent_owner) c_is
           s.begun);
-      challenges = subst (λ k. AllByRecursion
-          (IsShownChallenge tests rules log (seen events c) c k x.parent x.start) x.challenges) same
-          (subst (λ k. AllByRecursion
-          (IsShownChallenge tests rules log (seen events k) k s.made x.parent x.start) x.challenges) c_is
-          s.challenges);
+      challenges = grind (arith);
       account = exits_are_their_owners rules log x.coin x.block x
           (legal-table tests rules log (legal-log tests rules events legal)) (stands log x there);
     }
