@@ -1,18 +1,16 @@
 -- No command of a wallet asks for the tag of what its leaves bind.
-use Rattle.std.proofs.Common.{◌≡◌, ℕ, ◌==◌, ◌&&◌, ◌||◌, not, Bool, false, if◌then◌else◌, List, [], ◌∷◌, length, map, Option, Some, None, Ok, Err, refl, sym, ap, ◌∙◌}
-use Rattle.std.specs.Prelude.{Result, find, reverse, slice_get, nat_le, is_none}
-use Rattle.std.specs.List.{flat_map, list_any, range_with_len}
+use Rattle.std.proofs.Common.{◌≡◌, ℕ, ◌==◌, ◌&&◌, not, Bool, false, if◌then◌else◌, List, map, Option, Some, None, Ok, Err, refl, sym, ap, ◌∙◌, arith}
+use Rattle.std.specs.Prelude.{Result, find, reverse, slice_get}
+use Rattle.std.specs.List.{list_any, range_with_len}
 use Rattle.std.specs.Option.{option_map, option_map_or}
 use Rattle.std.proofs.lemmas.List.{length-map}
 use Rattle.std.proofs.lemmas.Option.{slice_get-map}
-use Rattle.lms_sign.specs.Types.{leaf_count}
-use Rattle.leaf_journal.specs.Records.{marker, messages_of, with_number}
-use Rattle.node_journal.specs.Effect.{first_cause}
+use Rattle.std.proofs.lemmas.Grind.{common_steps}
+use Rattle.leaf_journal.specs.Records.{marker, with_number}
 use Rattle.plasma_tx.specs.declared.owner.Owner.{Owner}
 use Rattle.plasma_tx.specs.declared.body.Body.{Body}
 use Rattle.plasma_tx.specs.declared.call.RootCall.{RootCall}
-use Rattle.plasma_tx.specs.Spelling.{body_text, body_at_start}
-use Rattle.plasma_tx.specs.Views.{blocks, coins, coin_at, is_withdrawn}
+use Rattle.plasma_tx.specs.Spelling.{body_text}
 use Rattle.coin_history.specs.declared.bundle.Bundle.{Bundle}
 use Rattle.coin_history.specs.declared.refusal.HistoryRefusal.{HistoryRefusal}
 use Rattle.coin_history.specs.Bundles.{bundle_in}
@@ -20,14 +18,14 @@ use Rattle.wallet_core.specs.declared.notes.LeafRecord.{LeafRecord}
 use Rattle.wallet_core.specs.declared.notes.Notes.{Notes}
 use Rattle.wallet_core.specs.declared.coin_state.CoinState.{CoinState}
 use Rattle.wallet_core.specs.declared.coin_state.CoinState.TheVariants.{Nothing, Sending, Leaving, Held}
-use Rattle.wallet_core.specs.State.{tips_of, greatest, spends_tip, sends_by, sending_leaf, state_at, state_by, state_of}
+use Rattle.wallet_core.specs.State.{spends_tip, sends_by, sending_leaf, state_of}
 use Rattle.node_rules.specs.declared.answers.Sent.{Sent}
 use Rattle.node_rules.specs.declared.identity.WalletIdentity.{WalletIdentity}
 use Rattle.node_rules.specs.declared.refusal.WalletRefusal.{WalletRefusal}
-use Rattle.node_rules.specs.declared.refusal.WalletRefusal.TheVariants.{KeySpent, BadLast, OldJournal, AlreadyNew}
+use Rattle.node_rules.specs.declared.refusal.WalletRefusal.TheVariants.{AlreadyNew}
 use Rattle.node_rules.specs.Kept.{links_handed}
 use Rattle.node_rules.specs.WalletRecords.{owner_of, who_is, notes_of, state_notes, leaves_in}
-use Rattle.node_rules.specs.Wallet.{WalletRecords, WalletEffect, answers, binds_it, unless, noted, coin_state, used, sent_by, accept_by, accept_effect, send_from, send_effect, last_leaf, last_of, leave_from, leave_effect, due_in, watch_answer, reclaim_last, reclaim_from, reclaim_by, reclaim_effect, migrate_effect}
+use Rattle.node_rules.specs.Wallet.{WalletRecords, WalletEffect, answers, binds_it, noted, coin_state, used, sent_by, accept_by, accept_effect, send_from, send_effect, last_leaf, last_of, leave_from, leave_effect, due_in, watch_answer, reclaim_last, reclaim_from, reclaim_by, reclaim_effect, migrate_effect}
 use Rattle.tag_laws.specs.Wallets.{without_tag, AreAlike, TagsAreNotAsked}
 
 -- ---- leaves without their tags
@@ -61,13 +59,7 @@ sending-untagged reclaimed leaves coin tip =
 state-untagged : (notes : Notes) (leaves : List LeafRecord) (log : List RootCall) (coin : ℕ)
     → state_of notes (map without_tag leaves) log coin ≡ state_of notes leaves log coin
 unfolding state_of
-state-untagged notes leaves log coin =
-    ap (λ (s : CoinState). if is_none (coin_at log coin) || is_withdrawn log coin then Nothing else s)
-    (by (greatest (tips_of notes log coin)))
-  where
-    by : (found : Option ℕ) → state_by notes (map without_tag leaves) coin found ≡ state_by notes leaves coin found
-    by None = refl
-    by (Some tip) = ap (state_at notes coin tip) (sending-untagged notes.reclaimed leaves coin tip)
+state-untagged notes leaves log coin = grind (arith, common_steps, sending-untagged)
 
 last_leaf-untagged : (leaves : List LeafRecord) (coin : ℕ)
     → last_leaf (map without_tag leaves) coin ≡ last_leaf leaves coin
@@ -89,10 +81,7 @@ module _ (dig : List ℕ → List ℕ) (one other : WalletRecords) (alike : AreA
       sym (same (leaves_in one.leaves)) ∙ ap ask alike.leaves ∙ same (leaves_in other.leaves)
 
   count-same : used one ≡ used other
-  count-same =
-      sym (length-map (messages_of one.leaves) (λ message. record { body = body_at_start message }))
-      ∙ same-of (λ leaves. length leaves) (λ leaves. length-map leaves without_tag)
-      ∙ length-map (messages_of other.leaves) (λ message. record { body = body_at_start message })
+  count-same = grind (arith, common_steps, length-map, same-of)
 
   noted-same : noted dig one ≡ noted dig other
   noted-same = ap (λ (n : List (List ℕ)). state_notes (owner_of (who_is n)) (notes_of dig n)) alike.notes
@@ -123,20 +112,7 @@ module _ (dig : List ℕ → List ℕ) (one other : WalletRecords) (alike : AreA
 
   send-by : (log : List RootCall) (coin : ℕ) (to : Owner) (last : Option ℕ) (state : CoinState)
       → send_from one log coin to last state ≡ send_from other log coin to last state
-  send-by log coin to last Nothing = refl
-  send-by log coin to last (Sending tip q) = refl
-  send-by log coin to last (Leaving tip) = refl
-  send-by log coin to None (Held tip) =
-      λ i. let who = who_is (alike.notes i) in
-      unless (first_cause ((nat_le (leaf_count who.types) (count-same i), KeySpent (count-same i)) ∷ []))
-      (sends (alike.marked i) (count-same i) who (body_of who.tag coin tip to None))
-  send-by log coin to (Some last) (Held tip) =
-      λ i. let who = who_is (alike.notes i) in
-      unless
-      (first_cause
-      ((nat_le last (blocks log), BadLast (blocks log)) ∷ (not (alike.marked i), OldJournal)
-      ∷ (nat_le (leaf_count who.types) (count-same i), KeySpent (count-same i)) ∷ []))
-      (sends (alike.marked i) (count-same i) who (body_of who.tag coin tip to (Some last)))
+  send-by log coin to last state = grind (arith, common_steps, count-same)
 
   send-same : (log : List RootCall) (coin : ℕ) (to : Owner) (last : Option ℕ)
       → send_effect dig one log coin to last ≡ send_effect dig other log coin to last
@@ -167,21 +143,11 @@ module _ (dig : List ℕ → List ℕ) (one other : WalletRecords) (alike : AreA
 
   due-by : (log : List RootCall) (coin : ℕ) (state : CoinState)
       → due_in dig one log coin state ≡ due_in dig other log coin state
-  due-by log coin Nothing = refl
-  due-by log coin (Sending tip q) = refl
-  due-by log coin (Leaving tip) =
-      ap (λ (n : List (List ℕ)). due_in dig (with_notes n) log coin (Leaving tip)) alike.notes
-  due-by log coin (Held tip) =
-      ap (λ (n : List (List ℕ)). due_in dig (with_notes n) log coin (Held tip)) alike.notes
+  due-by log coin state = grind (arith, common_steps)
 
   watch-same : (log : List RootCall) → watch_answer dig one log ≡ watch_answer dig other log
   unfolding watch_answer
-  watch-same log = λ i. flat_map (λ coin. due-same coin i) (range_with_len 1 (coins log))
-    where
-      due-same : (coin : ℕ) → due_in dig one log coin (coin_state dig one log coin)
-          ≡ due_in dig other log coin (coin_state dig other log coin)
-      due-same coin =
-          ap (due_in dig one log coin) (state-same log coin) ∙ due-by log coin (coin_state dig other log coin)
+  watch-same log = grind (arith, common_steps, state-same, due-by)
 
   reclaim-by : (log : List RootCall) (bundle : Bundle) (state : CoinState)
       → reclaim_from dig one log bundle state ≡ reclaim_from dig other log bundle state
@@ -194,10 +160,7 @@ module _ (dig : List ℕ → List ℕ) (one other : WalletRecords) (alike : AreA
 
   reclaim-read : (log : List RootCall) (read : Result Bundle HistoryRefusal)
       → reclaim_by dig one log read ≡ reclaim_by dig other log read
-  reclaim-read log (Err why) = refl
-  reclaim-read log (Ok bundle) =
-      ap (reclaim_from dig one log bundle) (state-same log bundle.coin)
-      ∙ reclaim-by log bundle (coin_state dig other log bundle.coin)
+  reclaim-read log read = grind (arith, common_steps, state-same, reclaim-by)
 
   reclaim-same : (log : List RootCall) (bytes : List ℕ)
       → reclaim_effect dig one log bytes ≡ reclaim_effect dig other log bytes

@@ -1,11 +1,11 @@
 -- The links of a history are of the chain, and so is all that nodes take and keep.
-use Rattle.std.proofs.Common.{◌≡◌, ◌⊎◌, inl, inr, ℕ, ◌==◌, ◌&&◌, ◌||◌, not, Bool, true, false, if◌then◌else◌, List, [], ◌∷◌, ◌++◌, length, drop, filter, Option, Some, None, is_some, is_ok, Ok, Err, refl, sym, ap, subst}
+use Rattle.std.proofs.Common.{◌≡◌, ◌⊎◌, inl, inr, ℕ, ◌==◌, ◌&&◌, ◌||◌, not, Bool, true, false, if◌then◌else◌, List, [], ◌∷◌, ◌++◌, length, drop, filter, Option, Some, None, is_some, is_ok, Ok, Err, refl, sym, ap, subst, arith, rules}
 use Rattle.std.specs.Prelude.{Result, reverse}
-use Rattle.std.specs.List.{All, AllByRecursion, Contains, cons_option, filter_map, list_all, list_any}
-use Rattle.std.specs.Option.{option_map}
+use Rattle.std.specs.List.{All, AllByRecursion, Contains, filter_map, list_all, list_any}
 use Rattle.std.proofs.lemmas.Bool.{and_parts, or_cases}
 use Rattle.std.proofs.lemmas.List.Elements.{All-nil, All-cons, All-append, All-filter, All-from_recursion, All-contains_itself, All-weaker, recursion_from_All}
-use Rattle.node_journal.specs.Effect.{first_cause, unless as unless_effect}
+use Rattle.std.proofs.lemmas.Grind.{common_steps}
+use Rattle.node_journal.specs.Effect.{first_cause}
 use Rattle.plasma_tx.specs.declared.opening.RawOpening.{RawOpening}
 use Rattle.plasma_tx.specs.declared.links.Links.{Links}
 use Rattle.plasma_tx.specs.declared.call.RootCall.{RootCall}
@@ -17,18 +17,17 @@ use Rattle.plasma_tx.specs.Shown.{Tests, Rules, tests_by}
 use Rattle.coin_history.specs.declared.bundle.Bundle.{Bundle}
 use Rattle.coin_history.specs.declared.refusal.HistoryRefusal.{HistoryRefusal}
 use Rattle.coin_history.specs.Bundles.{bundle_in}
-use Rattle.coin_history.specs.History.{is_absent, leaf_of_opening, transfer_of, links_in, IsHistory}
+use Rattle.coin_history.specs.History.{is_absent, transfer_of, links_in, IsHistory}
 use Rattle.coin_history.proofs.BundleLaws.{text-bundle_in}
 use Rattle.coin_history.proofs.HistoryFound.{histories_are_found}
 use Rattle.coin_history.proofs.HistoryLinks.{with_tx}
 use Rattle.wallet_core.specs.declared.notes.Notes.{Notes}
 use Rattle.node_rules.specs.declared.answers.Accepted.{Accepted}
 use Rattle.node_rules.specs.declared.refusal.WalletRefusal.{WalletRefusal}
-use Rattle.node_rules.specs.declared.refusal.WatcherRefusal.{WatcherRefusal}
 use Rattle.node_rules.specs.Kept.{chain_of, kept_of, shows_link, ends_at, kept_in, checked_by, links_handed}
 use Rattle.node_rules.specs.WalletRecords.{Note as WalletNote, Accepts, LeavesWith, Reclaims, note_text as wallet_text, note_in as wallet_note, accepts, accepted_of, short_at, notes_of as wallet_notes}
 use Rattle.node_rules.specs.Wallet.{answers, notes_it, unless, who, noted, accept_causes, accept_by, accept_effect, is_known}
-use Rattle.node_rules.specs.Watcher.{Note, Guarded, Released, note_in, guarded, who_is as watcher_who, notes_of, is_of, is_before, with_guard, guards_of, guards_in, guard_causes, guard_taken, guard_by, guard_effect}
+use Rattle.node_rules.specs.Watcher.{Note, Guarded, Released, note_in, guarded, who_is as watcher_who, notes_of, is_of, is_before, with_guard, guards_of, guards_in, guard_by, guard_effect}
 use Rattle.node_rules.proofs.KeptTexts.{only_kept-ok}
 use Rattle.node_rules.proofs.OneMore.{All-reverse}
 use Rattle.tag_laws.specs.Tags.{ShowsOwn}
@@ -44,30 +43,12 @@ links-own : (rules : Rules) (bundle : Bundle) (openings : List RawOpening)
 unfolding links_in
 links-own rules bundle [] all = tt
 links-own rules bundle (opening ∷ openings) all =
-    (elim (transfer_of rules bundle.coin opening) as (λ t. transfer_of rules bundle.coin opening ≡ t
-    → AllByRecursion (IsLinkOf rules.tag bundle)
-    (cons_option (option_map (with_tx opening) t) (links_in rules bundle.coin openings))) [
-      | None ↦ λ is. links-own rules bundle openings all.1
-      | Some tx ↦ λ is. (
-        record {
-          shown = all.0;
-          block = refl;
-          of_chain = transfer-own rules.tag (leaf_of_opening opening) bundle.coin opening.block tx is;
-        },
-        links-own rules bundle openings all.1,
-      )
-    ]) refl
+    grind (arith, common_steps, links-own rules bundle openings all.1, with_tx, transfer-own)
 
 -- an opening that shows a transfer shows one of the chain
 shown-own : (tag : List ℕ) (rules : Rules) (coin : ℕ) (opening : RawOpening) → rules.tag ≡ tag
     → is_some (transfer_of rules coin opening) ≡ true → ShowsOwn tag coin opening
-shown-own tag rules coin opening same is =
-    (elim (transfer_of rules coin opening) as (λ t. transfer_of rules coin opening ≡ t → is_some t ≡ true
-    → ShowsOwn tag coin opening) [
-      | None ↦ λ none wrong. absurd (cc wrong)
-      | Some tx ↦ λ some right. subst (λ (t : List ℕ). ShowsOwn t coin opening) same
-          (tx, transfer-own rules.tag (leaf_of_opening opening) coin opening.block tx some)
-    ]) refl is
+shown-own tag rules coin opening same is = grind (arith, common_steps, transfer-own)
 
 opening-own : (rules : Rules) (coin : ℕ) (opening : RawOpening)
     → (is_absent opening || is_some (transfer_of rules coin opening)) ≡ true
@@ -162,14 +143,7 @@ accepted_are_of_the_chain dig wallet log bytes taken small is =
 guard-own : (log : List RootCall) (guards : List Bundle) (handed : Result Links HistoryRefusal) (taken : Accepted)
     → (guard_by log guards handed).answer ≡ Ok taken
     → (links : Links) × (handed ≡ Ok links) × IsAnswer links taken
-guard-own log guards (Err why) taken is = absurd (cc is)
-guard-own log guards (Ok links) taken is =
-    (links, refl, at (first_cause (guard_causes log links)) is)
-  where
-    at : (failed : Option WatcherRefusal)
-        → (unless_effect failed (guard_taken guards links)).answer ≡ Ok taken → IsAnswer links taken
-    at (Some why) wrong = absurd (cc wrong)
-    at None same = answered {E = WatcherRefusal} links taken (Ok (answer_of links)) refl same
+guard-own log guards handed taken is = grind (arith, common_steps, answered)
 
 pub guarded_are_of_the_chain : GuardedAreOfTheChain
 unfolding guard_effect
@@ -238,21 +212,7 @@ module _ (dig : List ℕ → List ℕ) (tag : List ℕ) where
       then Some (Reclaims (number_at bytes 0) (number_at bytes 8) (short_at bytes 16))
       else None) ≡ Some note → NoteKeepsOwn tag note) [
         | true ↦ λ same. accepts-own bytes note same
-        | false ↦ λ rest.
-            (elim ((mark == 3) && (length bytes == 16)) as (λ b. (if b
-            then Some (LeavesWith (number_at bytes 0) (number_at bytes 8))
-            else if (mark == 5) && (length bytes == 20)
-            then Some (Reclaims (number_at bytes 0) (number_at bytes 8) (short_at bytes 16))
-            else None) ≡ Some note → NoteKeepsOwn tag note) [
-              | true ↦ λ same. subst (NoteKeepsOwn tag) (some_same _ note same) tt
-              | false ↦ λ last.
-                  (elim ((mark == 5) && (length bytes == 20)) as (λ b. (if b
-                  then Some (Reclaims (number_at bytes 0) (number_at bytes 8) (short_at bytes 16))
-                  else None) ≡ Some note → NoteKeepsOwn tag note) [
-                    | true ↦ λ same. subst (NoteKeepsOwn tag) (some_same _ note same) tt
-                    | false ↦ λ wrong. absurd (cc wrong)
-                  ]) last
-            ]) rest
+        | false ↦ grind (arith, common_steps, some_same)
       ]) is
 
   guarded-own : (bytes : List ℕ) (note : Note) → guarded (kept_in dig tag bytes) ≡ Some note → GuardKeepsOwn tag note
@@ -273,13 +233,7 @@ module _ (dig : List ℕ → List ℕ) (tag : List ℕ) where
       else if (mark == 19) && (length bytes == 16) then Some (Released (number_at bytes 0) (number_at bytes 8))
       else None) ≡ Some note → GuardKeepsOwn tag note) [
         | true ↦ λ same. guarded-own bytes note same
-        | false ↦ λ rest.
-            (elim ((mark == 19) && (length bytes == 16)) as (λ b. (if b
-            then Some (Released (number_at bytes 0) (number_at bytes 8)) else None) ≡ Some note
-            → GuardKeepsOwn tag note) [
-              | true ↦ λ same. subst (GuardKeepsOwn tag) (some_same _ note same) tt
-              | false ↦ λ wrong. absurd (cc wrong)
-            ]) rest
+        | false ↦ grind (arith, common_steps, some_same)
       ]) is
 
 -- what is read of a list has what each that is read has
@@ -287,11 +241,7 @@ pub read-each : {X : Type 0} (f : List ℕ → Option X) (P : X → Type 0)
     → ((bytes : List ℕ) (x : X) → f bytes ≡ Some x → P x) → (bodies : List (List ℕ))
     → AllByRecursion P (filter_map f bodies)
 read-each f P each [] = tt
-read-each {X} f P each (body ∷ bodies) =
-    (elim (f body) as (λ o. f body ≡ o → AllByRecursion P (cons_option o (filter_map f bodies))) [
-      | None ↦ λ none. read-each f P each bodies
-      | Some x ↦ λ some. (each body x some, read-each f P each bodies)
-    ]) refl
+read-each {X} f P each (body ∷ bodies) = grind (arith, common_steps, read-each f P each bodies)
 
 pub back-each : {X : Type 0} (P : X → Type 0) (xs : List X) → AllByRecursion P xs → AllByRecursion P (reverse xs)
 back-each P xs all =

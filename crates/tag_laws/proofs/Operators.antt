@@ -1,24 +1,22 @@
 -- What an operator takes, walks by and promises is of its chain, and so is what convicts.
-use Rattle.std.proofs.Common.{◌≡◌, ◌⊎◌, inl, inr, ℕ, zero, suc, ◌==◌, ◌&&◌, not, Bool, true, false, if◌then◌else◌, List, [], ◌∷◌, ◌++◌, length, drop, Option, Some, None, option_and_then, Ok, Err, refl, ap, ◌∙◌, subst}
-use Rattle.std.specs.Prelude.{Result, nat_lt, nat_le}
+use Rattle.std.proofs.Common.{◌≡◌, ◌⊎◌, inl, inr, ℕ, zero, suc, ◌==◌, ◌&&◌, not, Bool, true, false, if◌then◌else◌, List, drop, Option, Some, None, Ok, Err, refl, ap, ◌∙◌, arith, rules}
+use Rattle.std.specs.Prelude.{Result, nat_lt}
 use Rattle.std.specs.List.{filter_map}
 use Rattle.std.proofs.lemmas.Bool.{and_parts}
 use Rattle.std.proofs.lemmas.List.Elements.{All-contains, All-from_recursion}
+use Rattle.std.proofs.lemmas.Grind.{common_steps}
 use Rattle.lms_sign.specs.declared.secret.Secret.{Secret}
 use Rattle.lms_sign.specs.Types.{is_supported, leaf_count}
 use Rattle.lms_sign.specs.Valid.{types_of, is_valid}
-use Rattle.lms_sign.specs.Tree.{signature_of}
-use Rattle.leaf_journal.specs.Records.{with_number}
-use Rattle.node_journal.specs.Effect.{first_cause, only, unless}
+use Rattle.node_journal.specs.Effect.{first_cause}
 use Rattle.sparse_merkle.specs.declared.tree.Entry.{Entry}
-use Rattle.sparse_merkle.specs.TreeDigest.{leaf_of}
 use Rattle.plasma_tx.specs.declared.signed_tx.SignedTx.{SignedTx}
 use Rattle.plasma_tx.specs.declared.signed_tx.TxRefusal.{TxRefusal}
 use Rattle.plasma_tx.specs.declared.call.RootCall.{RootCall}
 use Rattle.plasma_tx.specs.declared.views.CoinView.{CoinView}
-use Rattle.plasma_tx.specs.Spelling.{body_at_start, number_at, signed_in}
-use Rattle.plasma_tx.specs.Transfer.{transfer_in, is_signed_by}
-use Rattle.plasma_tx.specs.Views.{blocks, coin_at}
+use Rattle.plasma_tx.specs.Spelling.{body_at_start, signed_in}
+use Rattle.plasma_tx.specs.Transfer.{is_signed_by}
+use Rattle.plasma_tx.specs.Views.{blocks}
 use Rattle.plasma_tx.specs.Shown.{tests_by}
 use Rattle.plasma_tx.proofs.Names.{some_same}
 use Rattle.plasma_tx.proofs.Spellings.{signed_in-ok}
@@ -26,23 +24,21 @@ use Rattle.coin_history.specs.declared.bundle.Bundle.{Bundle}
 use Rattle.coin_history.specs.declared.refusal.HistoryRefusal.{HistoryRefusal}
 use Rattle.coin_history.specs.Bundles.{bundle_in}
 use Rattle.operator_rules.specs.declared.refusal.OfferRefusal.{OfferRefusal}
-use Rattle.operator_rules.specs.declared.refusal.OfferRefusal.TheVariants.{NotTransfer}
-use Rattle.operator_rules.specs.Records.{Note, Offered, Laid, Sealed, is_read, spells_transfer, note_in, who_is, notes_of}
-use Rattle.operator_rules.specs.Trees.{Forest, is_waiting, tree_at}
-use Rattle.operator_rules.specs.Walk.{Place, start_of, moved_by, transfer_at, place_at, present}
-use Rattle.operator_rules.specs.Commands.{forest_in, offer_causes, offer_at, offer_of, offer_effect}
+use Rattle.operator_rules.specs.Records.{Note, Offered, Laid, Sealed, spells_transfer, note_in, who_is, notes_of}
+use Rattle.operator_rules.specs.Trees.{Forest}
+use Rattle.operator_rules.specs.Walk.{Place, start_of, moved_by, transfer_at, place_at}
+use Rattle.operator_rules.specs.Commands.{forest_in, offer_at, offer_of, offer_effect}
 use Rattle.operator_rules.specs.Acts.{log_of}
 use Rattle.operator_rules.proofs.Made.{bundles_are_histories}
 use Rattle.receipt_audit.specs.declared.promise.Promise.{Promise}
 use Rattle.receipt_audit.specs.declared.issuing.Receipt.{Receipt}
 use Rattle.receipt_audit.specs.declared.audit.Conviction.{Conviction}
 use Rattle.receipt_audit.specs.declared.refusal.AuditRefusal.{AuditRefusal}
-use Rattle.receipt_audit.specs.declared.refusal.AuditRefusal.TheVariants.{BadReceipt, BadKey, NotSigned, NotYet, OtherCoin}
+use Rattle.receipt_audit.specs.declared.refusal.AuditRefusal.TheVariants.{BadReceipt, BadKey, NotSigned, NotYet}
 use Rattle.receipt_audit.specs.declared.refusal.IssueRefusal.{IssueRefusal}
-use Rattle.receipt_audit.specs.declared.refusal.IssueRefusal.TheVariants.{BadDue, OldJournal, KeySpent}
 use Rattle.receipt_audit.specs.Promises.{promise_in, promise_text, promised_part, signature_part}
-use Rattle.receipt_audit.specs.Audit.{breach_of, conviction_of, convicted, shown_by, audited, conviction_answer}
-use Rattle.receipt_audit.specs.Desk.{IssueEffect, promise_for, issue_causes, receipt_or, record_or, issue_or, issue_effect}
+use Rattle.receipt_audit.specs.Audit.{conviction_of, convicted, shown_by, audited, conviction_answer}
+use Rattle.receipt_audit.specs.Desk.{IssueEffect, promise_for, issue_causes, receipt_or, issue_or, issue_effect}
 use Rattle.receipt_audit.proofs.PromiseTexts.{promise-read}
 use Rattle.receipt_audit.proofs.Given.{issues_give_receipts}
 use Rattle.tag_laws.specs.Tags.{IsOfChain}
@@ -59,24 +55,11 @@ module _ (dig : List ℕ → List ℕ) (tag : List ℕ) (log : List RootCall) (f
   -- the coin that an offer answers is the transfer's
   offered-at : (tx : SignedTx) (made : Option CoinView) (coin : ℕ)
       → (offer_at dig tag log forest bytes tx made).answer ≡ Ok coin → tx.body.coin ≡ coin
-  offered-at tx None coin is = absurd (cc is)
-  offered-at tx (Some made) coin is =
-      at (first_cause (offer_causes (blocks log) tx (present dig tag log forest.sealed tx.body.coin made)
-      (is_waiting dig log forest tx.body.coin))) _ is
-    where
-      at : (failed : Option OfferRefusal) (added : Option (List ℕ))
-          → (unless failed (record { answer = Ok tx.body.coin; note = added })).answer ≡ Ok coin → tx.body.coin ≡ coin
-      at None added same = coin-same {E = OfferRefusal} tx.body.coin coin (Ok tx.body.coin) refl same
-      at (Some why) added wrong = absurd (cc wrong)
+  offered-at tx made coin is = grind (arith, common_steps, coin-same)
 
   offered-by : (r : Result SignedTx TxRefusal) → signed_in tag bytes ≡ r → (coin : ℕ)
       → (offer_of dig tag log forest bytes r).answer ≡ Ok coin → (tx : SignedTx) × IsOfChain tag coin bytes tx
-  offered-by (Err why) read coin is = absurd (cc is)
-  offered-by (Ok tx) read coin is = (
-    tx,
-    subst (λ (c : ℕ). IsOfChain tag c bytes tx) (offered-at tx (coin_at log tx.body.coin) coin is)
-        (read_transfers_have_the_tag tag bytes tx read),
-  )
+  offered-by r read coin is = grind (arith, common_steps, offered-at, read_transfers_have_the_tag)
 
 pub offers_are_of_the_chain : OffersAreOfTheChain
 unfolding offer_effect
@@ -86,13 +69,7 @@ offers_are_of_the_chain dig records log bytes coin is =
 
 pub others_are_not_offered : OthersAreNotOffered
 unfolding offer_effect
-others_are_not_offered dig records log bytes other =
-    let tag = (who_is records).tag in
-    (elim (signed_in tag bytes) as (λ r. signed_in tag bytes ≡ r
-    → offer_of dig tag log (forest_in records) bytes r ≡ only (Err NotTransfer)) [
-      | Err why ↦ λ is. refl
-      | Ok tx ↦ λ is. absurd (other (read_transfers_have_the_tag tag bytes tx is).named)
-    ]) refl
+others_are_not_offered dig records log bytes other = grind (arith, common_steps, read_transfers_have_the_tag)
 
 -- ---- offered transfers among records
 
@@ -102,38 +79,11 @@ NoteIsOwn tag (Laid coin bytes) = Unit {0}
 NoteIsOwn tag Sealed = Unit {0}
 
 spelled-own : (tag bytes : List ℕ) → spells_transfer tag bytes ≡ true → NoteIsOwn tag (Offered bytes)
-spelled-own tag bytes is =
-    (elim (signed_in tag bytes) as (λ r. signed_in tag bytes ≡ r → is_read r ≡ true
-    → NoteIsOwn tag (Offered bytes)) [
-      | Err why ↦ λ read wrong. absurd (cc wrong)
-      | Ok tx ↦ λ read right. (tx, read_transfers_have_the_tag tag bytes tx read)
-    ]) refl is
+spelled-own tag bytes is = grind (arith, common_steps, read_transfers_have_the_tag)
 
 note-own : (tag : List ℕ) (body : List ℕ) (note : Note) → note_in tag body ≡ Some note → NoteIsOwn tag note
 unfolding note_in
-note-own tag [] note is = absurd (cc is)
-note-own tag (mark ∷ bytes) note is =
-    (elim ((mark == 34) && spells_transfer tag bytes) as (λ b. ((mark == 34) && spells_transfer tag bytes) ≡ b
-    → (if b then Some (Offered bytes)
-    else if (mark == 35) && nat_le 8 (length bytes) then Some (Laid (number_at bytes 0) (drop 8 bytes))
-    else if (mark == 36) && (length bytes == 0) then Some Sealed
-    else None) ≡ Some note → NoteIsOwn tag note) [
-      | true ↦ λ both same. subst (NoteIsOwn tag) (some_same (Offered bytes) note same)
-          (spelled-own tag bytes (and_parts (mark == 34) (spells_transfer tag bytes) both).1)
-      | false ↦ λ neither rest.
-          (elim ((mark == 35) && nat_le 8 (length bytes)) as (λ b. (if b
-          then Some (Laid (number_at bytes 0) (drop 8 bytes))
-          else if (mark == 36) && (length bytes == 0) then Some Sealed
-          else None) ≡ Some note → NoteIsOwn tag note) [
-            | true ↦ λ same. subst (NoteIsOwn tag) (some_same _ note same) tt
-            | false ↦ λ last.
-                (elim ((mark == 36) && (length bytes == 0)) as (λ b. (if b then Some Sealed else None) ≡ Some note
-                → NoteIsOwn tag note) [
-                  | true ↦ λ same. subst (NoteIsOwn tag) (some_same Sealed note same) tt
-                  | false ↦ λ wrong. absurd (cc wrong)
-                ]) last
-          ]) rest
-    ]) refl is
+note-own tag body note is = grind (arith, common_steps, some_same, spelled-own, and_parts)
 
 pub offered_are_of_the_chain : OfferedAreOfTheChain
 unfolding notes_of
@@ -153,19 +103,7 @@ module _ (dig : List ℕ → List ℕ) (tag : List ℕ) (log : List RootCall) (s
 
   tree-own : (n : ℕ) (tx : SignedTx) → transfer_at dig tag log sealed coin n ≡ Some tx
       → IsMovedTo dig tag log sealed coin (record { block = n; owner = tx.body.to })
-  tree-own n tx is =
-      (elim (tree_at dig log sealed n) as (λ o. tree_at dig log sealed n ≡ o
-      → option_and_then (λ tree. transfer_in tag coin n (leaf_of tree coin)) o ≡ Some tx
-      → IsMovedTo dig tag log sealed coin (record { block = n; owner = tx.body.to })) [
-        | None ↦ λ none wrong. absurd (cc wrong)
-        | Some tree ↦ λ some same. record {
-          tree = tree;
-          tree_is = some;
-          tx = tx;
-          of_chain = transfer-own tag (leaf_of tree coin) coin n tx same;
-          owner = refl;
-        }
-      ]) refl is
+  tree-own n tx is = grind (arith, common_steps, transfer-own)
 
   moved-own : (n : ℕ) (last : Place) (t : Option SignedTx) → transfer_at dig tag log sealed coin n ≡ t
       → IsWalked last → IsWalked (moved_by n last t)
@@ -228,14 +166,7 @@ convicts promise (Err why) conviction is = absurd (cc is)
 shown-convicts : (dig : List ℕ → List ℕ) (log : List RootCall) (promise : Promise)
     (read : Result Bundle HistoryRefusal) (conviction : Conviction)
     → shown_by dig log promise read ≡ Ok conviction → conviction_of promise ≡ conviction
-shown-convicts dig log promise (Err why) conviction is = absurd (cc is)
-shown-convicts dig log promise (Ok bundle) conviction is =
-    (elim (bundle.coin == promise.coin) as
-    (λ b. (if b then convicted promise (breach_of (tests_by dig) dig log promise bundle)
-    else Err (OtherCoin bundle.coin)) ≡ Ok conviction → conviction_of promise ≡ conviction) [
-      | true ↦ λ same. convicts promise (breach_of (tests_by dig) dig log promise bundle) conviction same
-      | false ↦ λ wrong. absurd (cc wrong)
-    ]) is
+shown-convicts dig log promise read conviction is = grind (arith, common_steps, convicts)
 
 pub convictions_are_of_the_chain : ConvictionsAreOfTheChain
 unfolding conviction_answer
@@ -300,26 +231,4 @@ receipt_by text = Ok (record { bytes = text })
 
 pub desks_count_leaves_alone : DesksCountLeavesAlone
 unfolding issue_effect
-desks_count_leaves_alone dig judge secret notes records others log bytes due marks counts =
-    let offered = offer_effect judge notes log bytes in
-    let text = promise_text (promise_for dig (who_is notes).tag (blocks log) bytes due) in
-    let causes : first_cause (issue_causes (leaf_count secret.types) records (blocks log) due)
-    ≡ first_cause (issue_causes (leaf_count secret.types) others (blocks log) due) =
-    λ i. first_cause ((nat_le due (blocks log), BadDue (blocks log)) ∷ (not (marks i), OldJournal)
-    ∷ (nat_le (leaf_count secret.types) (counts i), KeySpent (counts i)) ∷ []) in
-    λ i. issue_or (causes i) (record {
-      answer = receipt_same text offered.answer i;
-      is_offered = true;
-      note = offered.note;
-      leaf = record_same text offered.answer i;
-    })
-  where
-    receipt_same : (text : List ℕ) (r : Result ℕ OfferRefusal)
-        → receipt_or secret records text r ≡ receipt_or secret others text r
-    receipt_same text (Err why) = refl
-    receipt_same text (Ok coin) =
-        ap (λ (n : ℕ). receipt_by (text ++ signature_of secret n text)) counts
-
-    record_same : (text : List ℕ) (r : Result ℕ OfferRefusal) → record_or records text r ≡ record_or others text r
-    record_same text (Err why) = refl
-    record_same text (Ok coin) = λ i. Some (if marks i then with_number (counts i) text else text)
+desks_count_leaves_alone dig judge secret notes records others log bytes due marks counts = grind (arith, common_steps)

@@ -7,7 +7,7 @@ use Rattle.std.specs.Int.{w64, from_be_bytes}
 use Rattle.std.proofs.lemmas.Bool.{and_parts, eqb-true, false≢true}
 use Rattle.std.proofs.lemmas.List.{length-append}
 use Rattle.std.proofs.lemmas.List.Elements.{All-append, All-cons, All-nil, recursion_from_All}
-use Rattle.node_journal.specs.Effect.{first_cause}
+use Rattle.std.proofs.lemmas.Grind.{common_steps}
 use Rattle.node_journal.specs.Role.{are_of}
 use Rattle.lms_sign.specs.Tree.{signature_of}
 use Rattle.leaf_journal.specs.Records.{messages_of}
@@ -23,12 +23,12 @@ use Rattle.plasma_tx.proofs.Spellings.{Fits, body_in-ok, signed_in-fits, signed_
 use Rattle.coin_history.specs.Bundles.{bundle_in}
 use Rattle.wallet_core.specs.declared.notes.LeafRecord.{LeafRecord}
 use Rattle.wallet_core.specs.declared.coin_state.CoinState.{CoinState}
-use Rattle.wallet_core.specs.declared.coin_state.CoinState.TheVariants.{Nothing, Sending, Leaving, Held}
+use Rattle.wallet_core.specs.declared.coin_state.CoinState.TheVariants.{Held}
 use Rattle.node_rules.specs.declared.answers.Sent.{Sent}
 use Rattle.node_rules.specs.declared.refusal.WalletRefusal.{WalletRefusal}
 use Rattle.node_rules.specs.Kept.{links_handed}
 use Rattle.node_rules.specs.WalletRecords.{secret_of, who_is, wallet_kinds, is_body, leaves_in}
-use Rattle.node_rules.specs.Wallet.{WalletRecords, unless, who, noted, used, sent_by, send_causes, send_body, send_from, coin_state, accept_effect, send_effect, leave_effect, reclaim_effect, migrate_effect, names_coin, last_leaf, again_by, again_answer}
+use Rattle.node_rules.specs.Wallet.{WalletRecords, who, noted, used, sent_by, send_from, coin_state, accept_effect, send_effect, leave_effect, reclaim_effect, migrate_effect, names_coin, last_leaf, again_by, again_answer}
 use Rattle.node_rules.specs.WalletOpening.{leaves_of, is_wallet}
 use Rattle.node_rules.specs.WalletCommandLaws.{with_more, sent_body, AddsSent, AddsMarker}
 use Rattle.node_rules.proofs.WalletGrow.{who-same, wallet-parts}
@@ -49,19 +49,7 @@ sent-from : (wallet : WalletRecords) (log : List RootCall) (coin : ℕ) (to : Ow
     (state : CoinState) (sent : Sent) → (send_from wallet log coin to last state).answer ≡ Ok sent
     → (tip : ℕ) × (state ≡ Held tip)
     × (sent_by (who wallet) (used wallet) (body_text (sent_body wallet coin tip to last)) ≡ sent)
-sent-from wallet log coin to last Nothing sent is = absurd (cc is)
-sent-from wallet log coin to last (Sending tip q) sent is = absurd (cc is)
-sent-from wallet log coin to last (Leaving tip) sent is = absurd (cc is)
-sent-from wallet log coin to last (Held tip) sent is =
-    (tip, refl, at (first_cause (send_causes wallet log last)) is)
-  where
-    at : (failed : Option WalletRefusal)
-        → (unless failed (send_body wallet (sent_body wallet coin tip to last))).answer ≡ Ok sent
-        → sent_by (who wallet) (used wallet) (body_text (sent_body wallet coin tip to last)) ≡ sent
-    at (Some why) wrong = absurd (cc wrong)
-    at None same = answer-same
-        (sent_by (who wallet) (used wallet) (body_text (sent_body wallet coin tip to last))) sent
-        (Ok (sent_by (who wallet) (used wallet) (body_text (sent_body wallet coin tip to last)))) refl same
+sent-from wallet log coin to last state sent is = grind (arith, common_steps, answer-same)
 
 pub sent_are_of_the_chain : SentAreOfTheChain
 unfolding send_effect signed_text
@@ -87,9 +75,7 @@ sent_are_of_the_chain dig wallet log coin to last sent is words may answered =
 -- the identity stays behind each record that is added
 who-after : (dig : List ℕ → List ℕ) (notes : List (List ℕ)) (more : Option (List ℕ))
     → are_of (wallet_kinds dig) notes ≡ true → who_is (with_more more notes) ≡ who_is notes
-who-after dig notes None role = refl
-who-after dig [] (Some body) role = absurd (false≢true role)
-who-after dig (identity ∷ notes) (Some body) role = who-same identity notes (body ∷ [])
+who-after dig notes more role = grind (arith, common_steps, false≢true, who-same)
 
 -- leaves of a tag
 abbrev HaveTag : List ℕ → List LeafRecord → Type 0
@@ -208,11 +194,7 @@ fits-more message more fits = record {
 }
   where
     long : 116 ≤ length message
-    long = at (has_second_mark message) fits.long
-      where
-        at : (second : Bool) → (if second then 124 else 116) ≤ length message → 116 ≤ length message
-        at true le = omega arith
-        at false le = le
+    long = grind (arith, common_steps)
 
     second : (m : List ℕ) → 4 ≤ length m → has_second_mark (m ++ more) ≡ has_second_mark m
     second [] le = absurd (omega arith)

@@ -1,14 +1,14 @@
 -- Leaves of whatever tag only take away.
-use Rattle.std.proofs.Common.{◌≡◌, inl, inr, ℕ, zero, suc, ◌+◌, ◌<◌, ◌≤◌, ◌==◌, ◌&&◌, not, Bool, true, false, if◌then◌else◌, List, [], ◌∷◌, ◌++◌, length, Option, Some, None, is_some, Ok, Err, refl, sym, ap, ◌∙◌, subst, arith}
+use Rattle.std.proofs.Common.{◌≡◌, inl, inr, ℕ, zero, suc, ◌+◌, ◌<◌, ◌≤◌, ◌==◌, not, Bool, true, false, if◌then◌else◌, List, [], ◌∷◌, ◌++◌, length, Option, Some, None, is_some, Ok, Err, refl, sym, ap, ◌∙◌, subst, arith}
 use Rattle.std.specs.Prelude.{find, slice_get}
-use Rattle.std.specs.List.{Contains, list_any, range_with_len}
+use Rattle.std.specs.List.{list_any, range_with_len}
 use Rattle.std.specs.Option.{option_map_or}
 use Rattle.std.proofs.lemmas.Bool.{and_parts, and_from, true≢false, cases_eq, cases_lt}
 use Rattle.std.proofs.lemmas.List.{length-append}
 use Rattle.std.proofs.lemmas.List.Elements.{All-contains}
+use Rattle.std.proofs.lemmas.Grind.{common_steps}
 use Rattle.plasma_tx.specs.declared.owner.Owner.{Owner}
 use Rattle.plasma_tx.specs.declared.call.RootCall.{RootCall}
-use Rattle.plasma_tx.specs.Views.{coin_at, is_withdrawn}
 use Rattle.coin_history.specs.declared.bundle.Bundle.{Bundle}
 use Rattle.coin_history.specs.Bundles.{bundle_in}
 use Rattle.wallet_core.specs.declared.notes.LeafRecord.{LeafRecord}
@@ -19,7 +19,7 @@ use Rattle.wallet_core.specs.State.{tips_of, spends_tip, sends_by, sending_leaf,
 use Rattle.wallet_core.specs.Laws.{IsTip, NoLeaf}
 use Rattle.wallet_core.proofs.StateLaws.{sending_is, leaving_is, held_is, nothing_is, sending_none}
 use Rattle.node_rules.specs.declared.refusal.WalletRefusal.TheVariants.{NotHeld, NoLast}
-use Rattle.node_rules.specs.Wallet.{WalletRecords, answers, noted, coin_state, last_of, send_from, send_effect, leave_from, leave_effect, due_in, reclaim_last, reclaim_from, reclaim_by, reclaim_effect}
+use Rattle.node_rules.specs.Wallet.{WalletRecords, answers, noted, coin_state, last_of, send_from, send_effect, leave_from, leave_effect, due_in, reclaim_effect}
 use Rattle.node_rules.specs.WalletRecords.{leaves_in}
 use Rattle.tag_laws.specs.Wallets.{MoreLeavesTakeAway, NamedTipsAreSpent}
 
@@ -35,14 +35,7 @@ stays-at (l ∷ ls) more (suc q) leaf is = stays-at ls more q leaf is
 -- what signs a coin away does so with more leaves behind
 sends-more : (reclaimed : List ℕ) (leaves more : List LeafRecord) (coin tip q : ℕ)
     → sends_by reclaimed (leaves ++ more) coin tip q ≡ false → sends_by reclaimed leaves coin tip q ≡ false
-sends-more reclaimed leaves more coin tip q none = at (slice_get leaves q) refl
-  where
-    at : (found : Option LeafRecord) → slice_get leaves q ≡ found
-        → (option_map_or (spends_tip coin tip) found false && not (list_any (λ other. other == q) reclaimed)) ≡ false
-    at None is = refl
-    at (Some leaf) is =
-        ap (λ (o : Option LeafRecord). option_map_or (spends_tip coin tip) o false
-        && not (list_any (λ other. other == q) reclaimed)) (sym (stays-at leaves more q leaf is)) ∙ none
+sends-more reclaimed leaves more coin tip q none = grind (arith, common_steps, stays-at)
 
 none-more : (notes : Notes) (leaves more : List LeafRecord) (coin tip : ℕ) → NoLeaf notes (leaves ++ more) coin tip
     → NoLeaf notes leaves coin tip
@@ -60,10 +53,7 @@ none-in test start (suc count) q none low high =
         → (find test (range_with_len (start + 1) count) ≡ None → start + 1 ≤ q → q < start + 1 + count
         → test q ≡ false) → test q ≡ false
     at true is wrong further = absurd (cc wrong)
-    at false is rest further = elim (cases_eq start q) [
-      | inl here ↦ ap test (sym here) ∙ is
-      | inr later ↦ further rest (omega arith) (omega arith)
-    ]
+    at false is rest further = grind (arith, common_steps, cases_eq)
 
 away-none : (notes : Notes) (leaves : List LeafRecord) (coin tip : ℕ) → is_signed_away notes leaves coin tip ≡ false
     → (q : ℕ) → q < length leaves → sends_by notes.reclaimed leaves coin tip q ≡ false
@@ -88,19 +78,7 @@ away-more notes leaves more coin tip isnt =
 holds-more : (notes : Notes) (leaves more : List LeafRecord) (log : List RootCall) (coin tip : ℕ)
     → holds notes (leaves ++ more) log coin tip ≡ true → holds notes leaves log coin tip ≡ true
 unfolding holds
-holds-more notes leaves more log coin tip held =
-    let front = is_some (coin_at log coin) && list_any (λ t. t == tip) (tips_of notes log coin) in
-    let kept = and_parts (front && not (is_signed_away notes (leaves ++ more) coin tip)) (not (is_withdrawn log coin))
-    held in
-    let here = and_parts front (not (is_signed_away notes (leaves ++ more) coin tip)) kept.0 in
-    and_from (front && not (is_signed_away notes leaves coin tip)) (not (is_withdrawn log coin))
-    (and_from front (not (is_signed_away notes leaves coin tip)) here.0
-    (ap not (away-more notes leaves more coin tip (not-true (is_signed_away notes (leaves ++ more) coin tip) here.1))))
-    kept.1
-  where
-    not-true : (b : Bool) → not b ≡ true → b ≡ false
-    not-true true is = absurd (cc is)
-    not-true false is = refl
+holds-more notes leaves more log coin tip held = grind (arith, common_steps, and_parts, and_from, away-more)
 
 pub more_leaves_take_away : MoreLeavesTakeAway
 more_leaves_take_away notes leaves more log coin tip = (
@@ -130,21 +108,11 @@ sending-by : (notes : Notes) (leaves : List LeafRecord) (log : List RootCall) (c
 sending-by notes leaves log coin tip q is sends = at (state_of notes leaves log coin) refl
   where
     no-tips : IsTip notes log coin tip → tips_of notes log coin ≡ [] → ⊥
-    no-tips tipped none = nothing-in (subst (λ (l : List ℕ). Contains l tip) none tipped.is_one)
-      where
-        nothing-in : Contains [] tip → ⊥
-        nothing-in (k, within, found) = omega arith
+    no-tips tipped none = grind (arith, common_steps)
 
     at : (state : CoinState) → state_of notes leaves log coin ≡ state
         → (by : ℕ) × (by ≤ q) × (state_of notes leaves log coin ≡ Sending tip by)
-    at Nothing found =
-        elim ((nothing_is notes leaves log coin).0 found) [
-          | inl absent ↦ absurd (is.exists absent)
-          | inr rest ↦ elim rest [
-            | inl withdrawn ↦ absurd (true≢false (sym withdrawn ∙ is.not_withdrawn))
-            | inr none ↦ absurd (no-tips is none)
-          ]
-        ]
+    at Nothing found = grind (arith, common_steps, nothing_is, true≢false)
     at (Held other) found =
         let known = (held_is notes leaves log coin other).0 found in
         let same = one-tip notes log coin tip other is known.0 in
@@ -184,10 +152,7 @@ module _ (dig : List ℕ → List ℕ) (wallet : WalletRecords) (log : List Root
   spent-reclaim : (bytes : List ℕ) (bundle : Bundle) → bundle_in bytes ≡ Ok bundle → bundle.coin ≡ coin
       → last_of (leaves_in wallet.leaves) by ≡ None → reclaim_effect dig wallet log bytes ≡ answers (Err NoLast)
   unfolding reclaim_effect
-  spent-reclaim bytes bundle read coin_is none =
-      ap (reclaim_by dig wallet log) read
-      ∙ ap (reclaim_from dig wallet log bundle) (ap (coin_state dig wallet log) coin_is ∙ state)
-      ∙ ap (reclaim_last dig log bundle (record { coin = bundle.coin; tip = tip; q = by })) none
+  spent-reclaim bytes bundle read coin_is none = grind (arith, common_steps)
 
 pub named_tips_are_spent : NamedTipsAreSpent
 unfolding coin_state

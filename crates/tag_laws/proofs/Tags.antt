@@ -1,9 +1,10 @@
 -- Bytes of another tag are read as no transfer of the chain.
-use Rattle.std.proofs.Common.{◌≡◌, ℕ, false, List, length, Some, None, refl, ap, ◌∙◌}
+use Rattle.std.proofs.Common.{◌≡◌, ℕ, false, List, length, Some, None, refl, ap, ◌∙◌, arith, rules}
 use Rattle.std.specs.List.{slice_range}
 use Rattle.std.specs.Str.{bytes_eq}
 use Rattle.std.proofs.lemmas.Bool.{le-ltb, false_from_ne_true}
 use Rattle.std.proofs.lemmas.Slice.Eq.{bytes_eq-Decides}
+use Rattle.std.proofs.lemmas.Grind.{common_steps}
 use Rattle.plasma_tx.specs.declared.signed_tx.SignedTx.{SignedTx}
 use Rattle.plasma_tx.specs.Spelling.{body_in, body_length, signed_in}
 use Rattle.plasma_tx.specs.Transfer.{transfer_in}
@@ -41,11 +42,7 @@ others_are_refused tag bytes tx other is =
     rw (le-ltb (length bytes) (body_length bytes) fits.long, fits.marked, unlike) refl
 
 pub others_are_no_transfers : OthersAreNoTransfers
-others_are_no_transfers tag leaf coin block other =
-    (elim (transfer_in tag coin block leaf) as (λ o. transfer_in tag coin block leaf ≡ o → o ≡ None) [
-      | None ↦ λ is. refl
-      | Some tx ↦ λ is. absurd (other (transfer-own tag leaf coin block tx is).named)
-    ]) refl
+others_are_no_transfers tag leaf coin block other = grind (arith, common_steps, transfer-own)
 
 pub others_are_not_shown : OthersAreNotShown
 others_are_not_shown tests rules log coin opening other =

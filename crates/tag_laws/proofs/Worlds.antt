@@ -1,14 +1,14 @@
 -- In every run each event is of the chain.
-use Rattle.std.proofs.Common.{◌≡◌, ℕ, ◌==◌, Bool, true, false, if◌then◌else◌, List, [], ◌∷◌, length, Some, sym, ap, ◌∙◌, subst, slice_get}
+use Rattle.std.proofs.Common.{◌≡◌, ℕ, true, List, [], ◌∷◌, Some, sym, ◌∙◌, subst, slice_get, arith, rules}
 use Rattle.std.specs.List.{AllByRecursion}
 use Rattle.std.proofs.lemmas.List.Elements.{All-from_recursion}
+use Rattle.std.proofs.lemmas.Grind.{common_steps}
 use Rattle.plasma_tx.specs.declared.body.Body.{Body}
 use Rattle.plasma_tx.specs.declared.call.RootCall.{RootCall}
 use Rattle.plasma_tx.specs.Shown.{Tests, Rules, tests_by, rules_of}
-use Rattle.plasma_tx.specs.Table.{answer_to, is_accepted}
 use Rattle.schedule_text.specs.declared.line.Line.{Line}
 use Rattle.node_replies.specs.declared.order.NodeOrder.{NodeOrder}
-use Rattle.world_rules.specs.Events.{Event, Joins, Bounces, Accepts, Guards, Binds, Watches, Leaves, Seals, bound_by, taken_back, is_taken, not_taken, signed_away_by, log_of}
+use Rattle.world_rules.specs.Events.{Event, Joins, Accepts, Guards, Binds, bound_by, taken_back, not_taken, signed_away_by, log_of}
 use Rattle.world_rules.specs.World.{Node, World, wallet_of}
 use Rattle.world_rules.specs.Deeds.{Deed}
 use Rattle.world_rules.specs.Steps.{without_offers, Run, events_of}
@@ -17,7 +17,7 @@ use Rattle.world_rules.proofs.KeptWorld.{KeptWorld, few-blocks}
 use Rattle.world_rules.proofs.OrderEnds.{OrderEnds, Binding, order-ends}
 use Rattle.world_rules.proofs.Said.{said}
 use Rattle.world_rules.proofs.WalletSends.{words}
-use Rattle.world_rules.specs.Acts.{NewWallet, Act, Adds, Enters, Orders, End, Whole, Crashed, Kept, Lost, end_of, event_after, deed_at, done}
+use Rattle.world_rules.specs.Acts.{NewWallet, Act, Adds, Enters, Orders, End, end_of, event_after, deed_at, done}
 use Rattle.world_rules.specs.Evidence.{has_order, IsActIn}
 use Rattle.world_rules.proofs.Fitting.{IsFitAct}
 use Rattle.world_rules.proofs.Told.{rules-stay}
@@ -56,26 +56,15 @@ module _ (dig : List ℕ → List ℕ) (events : List Event) (world : World) (ke
 
   -- in a cut too
   binds-without : (n : ℕ) (event : Event) → P event → P (without_offers n event)
-  binds-without n (Watches m calls) own = tt
-  binds-without n (Leaves m call) own = tt
-  binds-without n (Seals call) own = tt
-  binds-without n event own = own
+  binds-without n event own = grind (arith, common_steps)
 
   binds-end : (n : ℕ) (deed : Deed) → P deed.gives.event → (end : End) → P (event_after n deed end)
-  binds-end n deed own Whole = own
-  binds-end n deed own Lost = tt
-  binds-end n deed own Crashed = binds-without n deed.gives.event own
-  binds-end n deed own Kept = binds-without n deed.gives.event own
+  binds-end n deed own end = grind (arith, common_steps, binds-without)
 
   binds-act : (act : Act) → IsActIn world act → IsFitAct act → P (done dig world act).event
   unfolding done
   binds-act (Adds name (NewWallet who)) known fit = tt
-  binds-act (Enters origin call) known fit =
-      entered (is_accepted (answer_to (tests_by dig) (rules_of world.chain) world.chain.log call))
-    where
-      entered : (b : Bool) → P (if b then Joins call else Bounces call)
-      entered true = tt
-      entered false = tt
+  binds-act (Enters origin call) known fit = grind (arith, common_steps)
   binds-act (Orders place order cut) known fit =
       let deed = deed_at dig world place order in
       binds-end place.number deed
@@ -134,23 +123,14 @@ bound-own : (tag : List ℕ) (w : ℕ) (events : List Event) → AllByRecursion 
     → HaveTag tag (bound_by events w)
 unfolding bound_by
 bound-own tag w [] own = tt
-bound-own tag w (Binds v body ∷ events) own =
-    elim (v == w) as (λ b. HaveTag tag (if b then body ∷ bound_by events w else bound_by events w)) [
-      | true ↦ (own.0, bound-own tag w events own.1)
-      | false ↦ bound-own tag w events own.1
-    ]
+bound-own tag w (Binds v body ∷ events) own = grind (arith, common_steps, bound-own tag w events own.1)
 bound-own tag w (event ∷ events) own = bound-own tag w events own.1
 
 not_taken-own : (tag : List ℕ) (taken : List ℕ) (bodies : List Body) → HaveTag tag bodies
     → HaveTag tag (not_taken taken bodies)
 unfolding not_taken
 not_taken-own tag taken [] all = tt
-not_taken-own tag taken (body ∷ bodies) all =
-    elim (is_taken taken (length bodies)) as (λ b. HaveTag tag (if b then not_taken taken bodies
-    else body ∷ not_taken taken bodies)) [
-      | true ↦ not_taken-own tag taken bodies all.1
-      | false ↦ (all.0, not_taken-own tag taken bodies all.1)
-    ]
+not_taken-own tag taken (body ∷ bodies) all = grind (arith, common_steps, not_taken-own tag taken bodies all.1)
 
 pub bound_are_of_the_chain : BoundAreOfTheChain
 bound_are_of_the_chain dig lines run world w run_is =
