@@ -1,5 +1,5 @@
 -- An exit that has led since it began is paid.
-use Rattle.std.proofs.Common.{◌≡◌, ℕ, ◌+◌, ◌<◌, ◌≤◌, ◌==◌, ◌&&◌, ◌||◌, not, Bool, true, false, if◌then◌else◌, List, [], ◌∷◌, ◌++◌, Option, Some, None, option_map, inl, inr, refl, sym, ap, ◌∙◌, subst, arith, rules}
+use Rattle.std.proofs.Common.{◌≡◌, ℕ, ◌+◌, ◌<◌, ◌≤◌, ◌==◌, ◌&&◌, ◌||◌, not, Bool, true, false, if◌then◌else◌, List, [], ◌∷◌, ◌++◌, Option, Some, None, option_map, inl, inr, refl, sym, ap, ◌∙◌, subst, arith}
 use Rattle.std.specs.Prelude.{is_some, nat_le}
 use Rattle.std.specs.List.{AllByRecursion, list_any, list_all}
 use Rattle.std.proofs.lemmas.Bool.{cases_Bool, eqb-true, eq-eqb, leb-true, leb-false, le-leb, and_parts, and_from, not-true, not_from_false, true≢false, false≢true, false_from_ne_true}
@@ -247,20 +247,19 @@ ahead-kept : (time : ℕ) (log : List RootCall) (c e : ℕ) → ends_first time 
 unfolding ends_first
 ahead-kept time [] c e is by x there c_is apart = absurd (false≢true is)
 ahead-kept time (call ∷ log) c e is by x there c_is apart =
-    grind (
-      arith,
-      common_steps,
-      not-true,
-      and_parts,
-      any-none,
-      false_from_ne_true,
-      leb-true,
-      true≢false,
-      and_from,
-      eq-eqb,
-      not_from_false,
-      le-leb,
-    )
+    let now_is : ℕ = now (call ∷ log) in
+    let never = not-true (list_any (λ (exit : Exit). (exit.coin == c) && not (exit.block == e) && is_ripe time exit)
+    (exits (call ∷ log)))
+    (and_parts (not (list_any (λ (exit : Exit). (exit.coin == c) && not (exit.block == e) && is_ripe time exit)
+    (exits (call ∷ log)))) (is_start c e call || ends_first time log c e) is).0 in
+    let off = any-none (λ (exit : Exit). (exit.coin == c) && not (exit.block == e) && is_ripe time exit)
+    (exits (call ∷ log)) x never there in
+    false_from_ne_true (is_ripe now_is x) (λ ripe.
+    let over = leb-true (x.start + EXIT_PERIOD) now_is ripe in
+    true≢false (sym (and_from ((x.coin == c) && not (x.block == e)) (is_ripe time x)
+    (and_from (x.coin == c) (not (x.block == e)) (eq-eqb x.coin c c_is) (not_from_false (x.block == e) apart))
+    (le-leb (x.start + EXIT_PERIOD) time (omega (arith, over, by))))
+    ∙ off))
 
 unpaid-ahead : (rules : Rules) (time : ℕ) (log : List RootCall) (c e : ℕ) (own : Exit) → IsLegal rules log
     → now log ≤ time → exit_at log c e ≡ Some own → ends_first time log c e ≡ true → is_withdrawn log c ≡ false

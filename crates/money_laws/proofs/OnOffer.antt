@@ -1,5 +1,6 @@
 -- Befores on offer are accepted one after the other, where the account has the reserve.
-use Rattle.std.proofs.Common.{◌≡◌, ℕ, ◌+◌, ◌<◌, ◌≤◌, ◌==◌, true, false, List, [], ◌∷◌, map, Option, Some, sym, ap, ◌∙◌, inl, inr, subst, filter, Contains, arith, rules}
+use Rattle.std.proofs.Common.{◌≡◌, ℕ, ◌+◌, ◌<◌, ◌≤◌, ◌==◌, ◌&&◌, not, Bool, true, false, if◌then◌else◌, List, [], ◌∷◌, map, Option, Some, sym, ap, ◌∙◌, inl, inr, subst, filter, Contains, arith}
+use Rattle.std.specs.Prelude.{is_none, nat_lt}
 use Rattle.std.specs.Option.{option_map_or}
 use Rattle.std.specs.List.{list_any}
 use Rattle.std.proofs.lemmas.Bool.{eqb-true, eq-eqb, lt-ltb, le-ltb, leb-true, and_parts, and_from, not_from_false, false≢true, false_from_ne_true}
@@ -9,11 +10,13 @@ use Rattle.plasma_tx.specs.declared.links.Links.{Links}
 use Rattle.plasma_tx.specs.declared.call.Shown.{Shown}
 use Rattle.plasma_tx.specs.declared.call.RootCall.{RootCall}
 use Rattle.plasma_tx.specs.declared.call.RootCall.TheVariants.{Before}
+use Rattle.plasma_tx.specs.declared.views.ChallengeView.{ChallengeView}
 use Rattle.plasma_tx.specs.declared.views.ExitView.{ExitView}
 use Rattle.plasma_tx.specs.ChallengeLists.{is_challenged}
 use Rattle.plasma_tx.specs.Links.{tip_of}
-use Rattle.plasma_tx.specs.Views.{now, Exit, exits, exits_of, exit_view, challenge_view, block_of}
+use Rattle.plasma_tx.specs.Views.{now, Challenge, Exit, exits, exits_of, exit_view, challenge_view, challenge_at, block_of}
 use Rattle.plasma_tx.specs.Shown.{Rules, tests_by, rules_of}
+use Rattle.plasma_tx.specs.Table.{is_over}
 use Rattle.plasma_tx.specs.Money.{balance_of}
 use Rattle.plasma_tx.proofs.Accepted.{accepted_calls_show}
 use Rattle.coin_history.specs.History.{links_of}
@@ -29,7 +32,7 @@ use Rattle.world_laws.specs.LegalLaws.{fresh_offers}
 use Rattle.world_laws.proofs.Histories.{links-at, shown-tip}
 use Rattle.world_laws.proofs.Guards.{kept-some}
 use Rattle.world_laws.proofs.DueTaken.{fresh, due_calls_are_taken}
-use Rattle.money_laws.specs.Reserve.{asks, Tip, reserve_of, is_at_tip}
+use Rattle.money_laws.specs.Reserve.{needs_before, asks, Tip, reserve_of, is_at_tip}
 use Rattle.money_laws.specs.MoneyLaws.{is_before_at, IsOnOffer, AreOnOffer, LegalReserveSuffices, ReserveSuffices}
 use Rattle.money_laws.proofs.Reserves.{over-one, tip-one, Could}
 use Rattle.money_laws.proofs.InOrder.{CouldBe, IsReady, AreReady, in-order}
@@ -45,18 +48,18 @@ asked-by : (log : List RootCall) (c e : ℕ) (x : Exit) → x.coin ≡ c → e <
     → is_challenged e (map challenge_view x.challenges) ≡ false → now log < x.start + CHALLENGE_WINDOW
     → asks log c e x ≡ CHALLENGE_BOND
 asked-by log c e x c_is above none early =
-    grind (
-      arith,
-      common_steps,
-      none-found,
-      any-map,
-      false_from_ne_true,
-      leb-true,
-      and_from,
-      eq-eqb,
-      lt-ltb,
-      not_from_false,
-    )
+    let free : is_none (challenge_at e x.challenges) ≡ true =
+    ap is_none (none-found (λ (ch : Challenge). ch.block == e) x.challenges
+    (sym (any-map challenge_view (λ (view : ChallengeView). view.block == e) x.challenges) ∙ none)) in
+    let inside : is_over log x.start CHALLENGE_WINDOW ≡ false =
+    false_from_ne_true (is_over log x.start CHALLENGE_WINDOW) (λ over.
+    let late = leb-true (x.start + CHALLENGE_WINDOW) (now log) over in absurd (omega (arith, late, early))) in
+    ap (λ (b : Bool). if b then CHALLENGE_BOND else 0)
+    (and_from (x.coin == c) (needs_before log e x) (eq-eqb x.coin c c_is)
+    (and_from (nat_lt e x.parent && is_none (challenge_at e x.challenges))
+    (not (is_over log x.start CHALLENGE_WINDOW))
+    (and_from (nat_lt e x.parent) (is_none (challenge_at e x.challenges)) (lt-ltb e x.parent above) free)
+    (not_from_false (is_over log x.start CHALLENGE_WINDOW) inside)))
 
 -- the parts of a Before
 same-coin : (by k f : ℕ) (one : Shown) (to c g : ℕ) (other : Shown) → Before by k f one ≡ Before to c g other → k ≡ c

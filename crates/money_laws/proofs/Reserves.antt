@@ -1,5 +1,5 @@
 -- The reserve suffices, and no less does.
-use Rattle.std.proofs.Common.{◌≡◌, ℕ, ◌+◌, ◌<◌, ◌≤◌, ◌==◌, ◌&&◌, not, Bool, true, false, if◌then◌else◌, List, [], ◌∷◌, ◌++◌, Option, Some, None, option_map, inl, inr, refl, sym, ap, ◌∙◌, subst, arith, rules}
+use Rattle.std.proofs.Common.{◌≡◌, ℕ, ◌+◌, ◌<◌, ◌≤◌, ◌==◌, ◌&&◌, not, Bool, true, false, if◌then◌else◌, List, [], ◌∷◌, ◌++◌, Option, Some, None, option_map, inl, inr, refl, sym, ap, ◌∙◌, subst, arith}
 use Rattle.std.specs.Prelude.{is_some, is_none, nat_lt}
 use Rattle.std.specs.List.{list_any, list_all}
 use Rattle.std.proofs.lemmas.Bool.{cases_Bool, eqb-true, eq-eqb, lt-ltb, ltb-true, leb-true, and_parts, and_from, or_parts, or_cases, not_from_false, true≢false, false≢true, false_from_ne_true}
@@ -181,17 +181,16 @@ module _ (log : List RootCall) (by c f : ℕ) (shown : Shown) (x : Exit) (stands
   unfolding reserve_of AreApart
   all-at-most-one [] apart = omega arith
   all-at-most-one (tip ∷ tips) apart =
-      grind (
-        arith,
-        common_steps,
-        all-at-most-one tips apart.1,
-        cases_Bool,
-        and_parts,
-        eqb-true,
-        at-most-one,
-        all-stay,
-        stays,
-      )
+      elim (cases_Bool (is_at_tip c (block_of shown) tip)) [
+        | inl here ↦
+            let parts = and_parts (tip.coin == c) (tip.block == block_of shown) here in
+            let rest : list_any (is_at_tip c (block_of shown)) tips ≡ false =
+            subst (λ n. list_any (is_at_tip n (block_of shown)) tips ≡ false) (eqb-true tip.coin c parts.0)
+            (subst (λ m. list_any (is_at_tip tip.coin m) tips ≡ false)
+            (eqb-true tip.block (block_of shown) parts.1) apart.0) in
+            omega (arith, at-most-one tip.coin tip.block, all-stay tips rest)
+        | inr other ↦ omega (arith, stays tip other, all-at-most-one tips apart.1)
+      ]
 
   one-less : asks log c (block_of shown) x ≡ CHALLENGE_BOND
       → reserve (Before by c f shown ∷ log) c (block_of shown) + CHALLENGE_BOND ≤ reserve log c (block_of shown)
