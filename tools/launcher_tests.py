@@ -1,5 +1,6 @@
 """The tests of what ./plasma says in a script's log, for tools/test: each wrong input that people type, and each wrong
-line of a wallet's run, has its reason there, on one line; silent is what is asked to be.
+line of a wallet's run, has its reason there, on one line; silent is what is asked to be. And of which of its two programs
+it takes here, and that both answer the same.
 """
 import os
 import pty
@@ -10,7 +11,8 @@ import unittest
 
 from testing import HERE, Program
 
-LAUNCHER, BIN = f"{os.path.dirname(HERE)}/plasma", f"{os.path.dirname(HERE)}/bin"
+TOP = os.path.dirname(HERE)
+LAUNCHER, BIN = f"{TOP}/plasma", f"{TOP}/bin"
 CHAIN, LOG = "chain 1 9 100\n", f"chain 0x{1:064x} 9 100\n"
 KEY, OWNER = "0x0000000500000004" + "0" * 96, "0x" + "0" * 128
 MANY = CHAIN + "".join(f"wallet w{number} {100 + number} {number}\n" for number in range(66))
@@ -57,6 +59,53 @@ WALLET = [
     ("--\naccept #4\n", 3, "give the hex itself"),
     (f"--\nsend 1 {OWNER}\n", 1, "the wallet doesn't hold the coin. What to do: state says what it is"),
 ]
+# What a processor tells: of one that has all that x86-64-v3 takes, and of others.
+ALL = "fpu pni ssse3 fma cx16 sse4_1 sse4_2 movbe popcnt xsave avx f16c lahf_lm abm bmi1 avx2 bmi2 avx512f"
+TOLD = [
+    (f"processor\t: 0\nvmx flags\t: vnmi\nflags\t\t: {ALL}\n\nprocessor\t: 1\nflags\t\t: fpu\n", ""),
+    (f"flags\t\t: {ALL.replace(' avx2', '')}\n\nflags\t\t: {ALL}\n", "avx2"),
+    (f"flags : {ALL.replace('avx2 bmi2', 'AVX2 bmi22')}", "avx2 bmi2"),
+    (f"Features\t: {ALL}\n", None),
+    (f"flags:{ALL}\n", None),
+    ("flags\t\t:\n", None),
+    ("flags", None),
+    ("", None),
+]
+
+
+class Processor(unittest.TestCase):
+    @staticmethod
+    def lacking(path):
+        words = ["bash", "-uc", '. "$0" && look_at_processor "$1" && echo "$lacking"', f"{HERE}/processor.bash", path]
+        done = subprocess.run(words, capture_output=True, text=True, check=False)
+        return done.returncode, done.stdout.strip(), done.stderr
+
+    def test_what_a_processor_lacks(self):
+        with tempfile.TemporaryDirectory() as room:
+            whole = self.lacking(f"{room}/none")[1]
+            self.assertEqual((len(whole.split()), self.lacking(room)), (16, (0, whole, "")))
+            for text, lacks in TOLD:
+                with open(f"{room}/cpuinfo", "w", encoding="utf-8") as file:
+                    file.write(text)
+                self.assertEqual(self.lacking(f"{room}/cpuinfo"), (0, whole if lacks is None else lacks, ""), text)
+
+    def test_which_program_is_taken_here(self):
+        env = {name: it for name, it in os.environ.items() if not name.startswith("PLASMA_")}
+        said, other = (subprocess.run([LAUNCHER, "--where"], capture_output=True, text=True, check=True,
+                                      env={**env, **more}).stdout for more in ({}, {"PLASMA_WIDE": "0"}))
+        _, lacks, _ = self.lacking("/proc/cpuinfo")
+        self.assertNotRegex(other, r"plasma\.wide|wide\.gz")
+        if not other.startswith("/"):
+            self.skipTest("no proved program is here")
+        self.assertIn("it is for every x86-64 processor, since PLASMA_WIDE=0 asks for that", other)
+        self.assertIn(f"and this one lacks {lacks}" if lacks else "AVX2", said)
+        with open(f"{TOP}/examples/old-owner-exits/expected", encoding="utf-8") as file:
+            expected = file.read()
+        for more in ({}, {"PLASMA_WIDE": "0"}):
+            with open(f"{TOP}/examples/old-owner-exits/input", "rb") as schedule:
+                done = subprocess.run([LAUNCHER, "replay"], stdin=schedule, capture_output=True, text=True,
+                                      env={**env, **more}, check=False)
+            self.assertEqual((done.returncode, done.stdout), (0, expected))
 
 
 class Launched(unittest.TestCase):
