@@ -1,7 +1,8 @@
 -- What a node's disks are behind an init that began it.
-use Rattle.std.proofs.Common.{◌≡◌, ◌⊎◌, ◌&&◌, ℕ, true, List, [], ◌∷◌, Option, Some, None, Result, Ok, Err, refl, ap, ◌∙◌, subst, inl, inr}
+use Rattle.std.proofs.Common.{◌≡◌, ◌&&◌, ℕ, true, List, [], ◌∷◌, Option, Some, None, Result, Ok, Err, refl, ap, arith}
 use Rattle.std.specs.Prelude.{OnOk}
 use Rattle.std.proofs.lemmas.List.Elements.{All-nil, All-cons}
+use Rattle.std.proofs.lemmas.Grind.{common_steps}
 use Rattle.crash_disk.specs.Disk.{History, FaultPlan}
 use Rattle.crash_disk.specs.Calls.{WhereTold}
 use Rattle.plasma_tx.specs.Spelling.{AreBytes}
@@ -21,7 +22,7 @@ use Rattle.run_endings.specs.Outputs.{EndsAs}
 use Rattle.node_runs.specs.Endings.{init_output}
 use Rattle.node_runs.specs.Sessions.{Outside}
 use Rattle.node_lives.specs.Disks.{Pair}
-use Rattle.node_lives.specs.Calls.{Asked, BeginsAs, DoesAsked, Starves, Call}
+use Rattle.node_lives.specs.Calls.{BeginsAs, Call}
 use Rattle.node_lives.specs.Standing.{identity_alone, are_promised, IsIdentityOf, kinds_of, LeavesStay, Stand}
 use Rattle.node_lives.specs.Laws.{by_key, begun_of, Begins}
 use Rattle.node_lives.proofs.Stays.{settled-stays}
@@ -34,21 +35,12 @@ alone-are kinds identity is = ap (λ b. b && true) is
 alone-wallet : (dig : List ℕ → List ℕ) (identity : List ℕ) → (wallet_kinds dig).is_identity identity ≡ true
     → is_wallet dig (identity_alone identity) ≡ true
 unfolding records_behind_of notes_of
-alone-wallet dig identity is =
-    wallet-from dig (identity_alone identity) (record {
-      role = alone-are (wallet_kinds dig) identity is;
-      leaves = refl;
-      bound = refl;
-    })
+alone-wallet dig identity is = grind (arith, common_steps, wallet-from, alone-are) steps 20000
 
 -- an init that is done was answered Ok
 pub answered-ok : (answer : Result Unit InitRefusal) (status : Status) (before after : Option (List ℕ))
     → EndsAs (init_output answer) status before after ⊥ → status ≡ Done → answer ≡ Ok tt
-answered-ok answer status before after ends made = elim (ends-by (init_output answer) status before after ⊥ ends) [
-  | inl same ↦ init-done answer (same ∙ made)
-  | inr (inl stopped) ↦ absurd (cc (stopped, made))
-  | inr (inr starved) ↦ absurd (cc (starved, made))
-]
+answered-ok answer status before after ends made = grind (arith, common_steps, ends-by, init-done) steps 20000
 
 pub ok-holds : {P : Type 0} (answer : Result Unit InitRefusal) → answer ≡ Ok tt → OnOk answer P → P
 ok-holds (Ok done) is holds = holds
@@ -103,14 +95,4 @@ module _ {D : Type 0} (told : D → Option History) (plan : D → Option FaultPl
 
   pub begun-stands : (role : Role) (call : Call told plan faults dig) (begins : Begins told plan faults dig role call)
       → Stand dig told role (identity_alone begins.identity) call.new
-  begun-stands role call begins = by call.did
-    where
-      by : DoesAsked told plan faults dig call.asked call.old call.new call.outside call.status
-          ⊎ Starves call.old call.new call.status
-          → Stand dig told role (identity_alone begins.identity) call.new
-      by (inl did) =
-          begins-stand role begins.identity call.old call.new call.outside call.status begins.is
-          (subst (λ (a : Asked). DoesAsked told plan faults dig a call.old call.new call.outside call.status)
-          begins.asked
-          did) begins.made
-      by (inr starves) = absurd (let none = starves.0 in let made = begins.made in cc (none, made))
+  begun-stands role call begins = grind (arith, common_steps, begins-stand) steps 20000

@@ -1,8 +1,9 @@
 -- An init may be cut off before each of its device calls, and each call at its end.
-use Rattle.std.proofs.Common.{◌≡◌, ◌≤◌, ℕ, false, List, [], length, None, Err, refl, inl, inr}
+use Rattle.std.proofs.Common.{◌≡◌, ◌≤◌, ℕ, false, List, [], length, None, Err, refl, inl, inr, arith}
+use Rattle.std.proofs.lemmas.Grind.{common_steps}
 use Rattle.crash_disk.specs.Disk.{Step, History, content}
 use Rattle.gate_journal.specs.declared.refusal.InitRefusal.TheVariants.{DeviceFault, NoMemory}
-use Rattle.node_journal.specs.Begin.{is_taken, journal_steps, init_steps, Inits, InitsOver, StopsBehindOver, RefusesEmpty, StopsInit, StopsBehind, IsAsked, PassesInit, IsLong, IsShort, RefusesPair}
+use Rattle.node_journal.specs.Begin.{is_taken, journal_steps, init_steps, Inits, StopsBehindOver, RefusesEmpty, StopsInit, StopsBehind, IsAsked, PassesInit, IsLong, IsShort, RefusesPair}
 use Rattle.run_endings.specs.Texts.{device_fault_text}
 use Rattle.run_endings.specs.Outputs.{EndsAs}
 use Rattle.run_endings.specs.declared.status.Status.TheVariants.{WriteFault, NoMemory as NoMemoryStatus}
@@ -21,10 +22,7 @@ use Rattle.node_lives.proofs.CutOpenings.{failing, making-fails, making-made}
 -- what an init did whose next device call fails
 stops : (steps : List ℕ → List Step) (old : Drive) (history : History) → (making : Making steps old history)
     → Inits told foretold steps old (Err DeviceFault) (failing steps making.made old)
-stops steps old history making =
-    telling old
-    (λ before. InitsOver told foretold steps (content before) old (Err DeviceFault) (failing steps making.made old))
-    (making.made, making-made steps old history making)
+stops steps old history making = grind (arith, common_steps, telling, failing, making-made) steps 20000
 
 empty-stops : (old : Drive) (history : History) → (making : Making journal_steps old history)
     → RefusesEmpty told foretold met old DeviceFault (failing journal_steps making.made old)

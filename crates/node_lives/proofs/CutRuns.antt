@@ -1,5 +1,6 @@
 -- Behind an opening that went through a run may be cut off at each moment of its session.
-use Rattle.std.proofs.Common.{◌≡◌, ℕ, List, Option, Some, None, refl, ap, subst, inl}
+use Rattle.std.proofs.Common.{◌≡◌, ℕ, List, Option, Some, None, refl, ap, subst, inl, arith}
+use Rattle.std.proofs.lemmas.Grind.{common_steps}
 use Rattle.crash_disk.specs.Disk.{History}
 use Rattle.node_journal.specs.Notes.{NotesState, Opened}
 use Rattle.node_journal.specs.Parts.{Parts, alone, both, OfLeaves}
@@ -32,10 +33,7 @@ alone-rests dig notes rests = record { notes = rests; leaves = λ leaves is. abs
 
 both-rest : (dig : List ℕ → List ℕ) (notes keys : NotesState Drive) → Rests (opened_at told met notes)
     → Rests (opened_at told met keys) → RestEach (node_found told foretold met dig (both notes keys)).kept
-both-rest dig notes keys rests others = record {
-  notes = rests;
-  leaves = λ leaves is. (let same : opened_at told met keys ≡ leaves = cc is in subst Rests same others);
-}
+both-rest dig notes keys rests others = grind (arith, common_steps) steps 20000
 
 module _ (dig : List ℕ → List ℕ) (old : Pair Drive) (outside : Outside) where
   abbrev Session : {L : Type 0} → Commands L → Parts (NotesState Drive) → Parts Drive → Status → Type 0

@@ -1,11 +1,12 @@
 -- What a crash leaves at the moment of a cut is among what it leaves behind device calls that all failed since: so a
 -- life with cuts is a life.
-use Rattle.std.proofs.Common.{◌≡◌, ℕ, zero, suc, Bool, true, false, List, [], ◌∷◌, ◌++◌, length, take, drop, Option, sym, ap, subst, arith}
+use Rattle.std.proofs.Common.{◌≡◌, ℕ, zero, suc, true, false, List, [], ◌∷◌, ◌++◌, take, drop, Option, subst, arith}
 use Rattle.std.specs.List.{All}
 use Rattle.std.proofs.lemmas.List.{map-append}
 use Rattle.std.proofs.lemmas.List.Elements.{All-head, All-tail}
 use Rattle.std.proofs.lemmas.List.Folds.{list_any-append}
-use Rattle.crash_disk.specs.Disk.{Step, asks_length, reads, writes, syncs, DeviceCall, History, content_after, synced_content_after, unsynced_ranges_after, is_touched, MayLeave, FaultPlan}
+use Rattle.std.proofs.lemmas.Grind.{common_steps}
+use Rattle.crash_disk.specs.Disk.{Step, asks_length, reads, writes, syncs, DeviceCall, History, synced_content_after, unsynced_ranges_after, is_touched, MayLeave, FaultPlan}
 use Rattle.crash_disk.proofs.Images.{length-with_write}
 use Rattle.node_lives.specs.Disks.{Pair, Lies, Crashed, BothLie}
 use Rattle.node_lives.specs.Lives.{IsLife, LieBehind}
@@ -31,34 +32,14 @@ module _ (began : List ℕ) (calls : List DeviceCall) (image : List ℕ)
   ranges = unsynced_ranges_after calls
 
   one-more : (step : Step) → MayLeave (behind began calls step) image
-  one-more asks_length = record {
-    no_shorter = may.no_shorter;
-    no_longer = may.no_longer;
-    untouched = λ place out. may.untouched place (touched-less synced ranges [] place out);
-  }
-  one-more (reads at count) = record {
-    no_shorter = may.no_shorter;
-    no_longer = may.no_longer;
-    untouched = λ place out. may.untouched place (touched-less synced ranges [] place out);
-  }
-  one-more (writes at bytes) = record {
-    no_shorter = may.no_shorter;
-    no_longer = omega (arith, may.no_longer, length-with_write (content_after began calls) at bytes);
-    untouched = λ place out. may.untouched place (touched-less synced ranges ((at, length bytes) ∷ []) place out);
-  }
-  one-more syncs = record {
-    no_shorter = may.no_shorter;
-    no_longer = may.no_longer;
-    untouched = λ place out. may.untouched place (touched-less synced ranges [] place out);
-  }
+  one-more asks_length = grind (arith, common_steps, touched-less) steps 20000
+  one-more (reads at count) = grind (arith, common_steps, touched-less) steps 20000
+  one-more (writes at bytes) = grind (arith, common_steps, length-with_write, touched-less) steps 20000
+  one-more syncs = grind (arith, common_steps, touched-less) steps 20000
 
   pub failed-leaves : (call : DeviceCall) → call.failed ≡ true
       → MayLeave (record { began = began; calls = call ∷ calls }) image
-  failed-leaves call failed =
-      let same : record { step = call.step; failed = true } ≡ call =
-      ap (λ (b : Bool). record { step = call.step; failed = b }) (sym failed) in
-      subst (λ (c : DeviceCall). MayLeave (record { began = began; calls = c ∷ calls }) image) same
-      (one-more call.step)
+  failed-leaves call failed = grind (arith, common_steps, one-more) steps 20000
 
 -- a crash before device calls that all failed leaves no more than one behind them
 pub all-failed : (began : List ℕ) (count : ℕ) (calls : List DeviceCall)

@@ -1,10 +1,11 @@
 -- The commands of an operator with a key keep the role of its notes, and its leaves those of its key.
-use Rattle.std.proofs.Common.{◌≡◌, ◌<◌, ◌++◌, ℕ, Bool, true, false, if◌then◌else◌, List, [], ◌∷◌, length, take, Option, Some, None, Result, Ok, Err, refl, sym, ap, ◌∙◌, subst, arith, length-append}
+use Rattle.std.proofs.Common.{◌≡◌, ◌<◌, ◌++◌, ℕ, Bool, true, if◌then◌else◌, List, [], ◌∷◌, length, take, Option, Some, None, Result, Ok, Err, refl, sym, ap, ◌∙◌, subst, arith, length-append}
 use Rattle.std.specs.Prelude.{◌==◌, nat_le, unwrap_or}
 use Rattle.std.specs.Str.{bytes_eq}
 use Rattle.std.specs.Result.{is_ok}
 use Rattle.std.proofs.lemmas.Bool.{and_from}
 use Rattle.std.proofs.lemmas.List.{length-take}
+use Rattle.std.proofs.lemmas.Grind.{common_steps}
 use Rattle.sha2.specs.Sha256.{sha256}
 use Rattle.sha2.proofs.Facts256.{length-sha256}
 use Rattle.lms_sign.specs.declared.secret.Secret.{Secret}
@@ -45,14 +46,7 @@ use Rattle.node_lives.proofs.Own.{more-on, Growing}
 -- where they are those of the key, they are all that is read
 pub promised-all : (seed : List ℕ) (records : List (List ℕ)) → are_promised seed records ≡ true
     → leaf_records_of is_promise (desk_leaves seed) records ≡ Ok records
-promised-all seed records is = by (leaf_records_of is_promise (desk_leaves seed) records) refl is
-  where
-    by : (read : Result (List (List ℕ)) ℕ) → leaf_records_of is_promise (desk_leaves seed) records ≡ read
-        → is_ok read ≡ true → leaf_records_of is_promise (desk_leaves seed) records ≡ Ok records
-    by (Err place) reads wrong = absurd (cc wrong)
-    by (Ok all) reads ok =
-        reads
-        ∙ ap (λ (l : List (List ℕ)). Ok l) (sym (all_same is_promise (desk_leaves seed) records all reads))
+promised-all seed records is = grind (arith, common_steps, all_same) steps 20000
 
 desk-count : (seed : List ℕ) → desk_leaves seed ≡ leaf_count (desk_secret seed).types
 desk-count seed =
@@ -112,11 +106,7 @@ module _ (seed : List ℕ) (dig : List ℕ → List ℕ) (digests : (bytes : Lis
   -- a command that adds no leaf
   leafless : (note leaf : Option (List ℕ)) → are_of operator_kinds (with_record desk.notes note) ≡ true
       → leaf ≡ None → GrowsBy seed desk note leaf
-  leafless added leaf notes none = record {
-    notes = notes;
-    leaves =
-        ap (λ (l : Option (List ℕ)). are_promised seed (with_record desk.leaves l)) none ∙ is.leaves;
-  }
+  leafless added leaf notes none = grind (arith, common_steps) steps 20000
 
   -- the leaves with a record that may follow
   followed : (body : List ℕ) → may_follow_of is_promise (desk_leaves seed) desk.leaves body ≡ true
@@ -126,11 +116,7 @@ module _ (seed : List ℕ) (dig : List ℕ → List ℕ) (digests : (bytes : Lis
 
   migration-grows : (marked : Bool) → is_marked desk.leaves ≡ marked
       → GrowsBy seed desk None (if marked then None else Some marker)
-  migration-grows true there = leafless None None is.notes refl
-  migration-grows false there = record {
-    notes = is.notes;
-    leaves = followed marker (marker-kind is_promise (desk_leaves seed) desk.leaves there);
-  }
+  migration-grows marked there = grind (arith, common_steps, leafless, followed, marker-kind) steps 20000
 
   -- an issue
   module _ (secret : Secret) (same : secret ≡ desk_secret seed) (bytes : List ℕ) (due : ℕ) where

@@ -1,6 +1,7 @@
 -- A call that isn't one of those that open a node's disks leaves these as they are: it begins nothing and opens nothing.
-use Rattle.std.proofs.Common.{◌≡◌, ℕ, List, Option, Some, Result, Ok, Err, ap, inl, inr}
+use Rattle.std.proofs.Common.{◌≡◌, ℕ, List, Option, Some, Result, Ok, Err, inl, inr, arith}
 use Rattle.std.specs.Prelude.{OnOk}
+use Rattle.std.proofs.lemmas.Grind.{common_steps}
 use Rattle.crash_disk.specs.Disk.{History, content, FaultPlan}
 use Rattle.node_journal.specs.Role.{role_in}
 use Rattle.gate_journal.specs.declared.refusal.InitRefusal.{InitRefusal}
@@ -42,10 +43,7 @@ module _ {D : Type 0} (told : D → Option History) (plan : D → Option FaultPl
     pub leaves : new.leaves ≡ old.leaves
 
   both-same : (old new : Pair D) → new ≡ old → QuietBoth old new
-  both-same old new is = record {
-    notes = quiet-same (told old.notes) (told new.notes) (ap (λ (p : Pair D). told p.notes) is);
-    leaves = ap (λ (p : Pair D). p.leaves) is;
-  }
+  both-same old new is = grind (arith, common_steps, quiet-same) steps 20000
 
   -- Over notes that keep records, which are read by the node's own calls alone: by runs of no other role, and by no
   -- signing that isn't one.
@@ -120,10 +118,7 @@ module _ {D : Type 0} (told : D → Option History) (plan : D → Option FaultPl
     asked-quiet (ToBegin disks identity) outside status never did =
         let quiet = begins-quiet disks identity outside status did in
         (λ one named same done. quiet.0 done, quiet.1)
-    asked-quiet (ToRun other) outside status never did = (
-      λ one named wrong. absurd (cc wrong),
-      runs-quiet other outside status never did,
-    )
+    asked-quiet (ToRun other) outside status never did = grind (arith, common_steps, runs-quiet) steps 20000
     asked-quiet (ToSign message) outside status never did = (
       λ one named wrong. absurd (cc wrong),
       signs-quiet message outside status never did,

@@ -1,5 +1,6 @@
 -- What a wallet's run gave out by a leaf is what the leaf binds in the records that the run left.
 use Rattle.std.proofs.Common.{◌≡◌, ◌≤◌, ◌<◌, ◌+◌, ◌++◌, ◌^◌, ℕ, true, List, Option, Some, is_some, None, option_map, Ok, refl, sym, ap, ◌∙◌, subst, inl, inr, arith}
+use Rattle.std.proofs.lemmas.Grind.{common_steps}
 use Rattle.crash_disk.specs.Disk.{History, FaultPlan}
 use Rattle.plasma_tx.specs.declared.call.RootCall.{RootCall}
 use Rattle.plasma_tx.specs.Views.{blocks}
@@ -83,10 +84,7 @@ module _ {D : Type 0} (told : D → Option History) (plan : D → Option FaultPl
         (left : NodeAt NotesAt) (text : List ℕ) → blocks log ≤ MOST_LINES → wallet_line_in line ≡ Some command
         → HasLeaves at → node_does wallet_commands log at command ≡ Ok (left, text) → HasLeaves left
     leaves-step log at line command left text few spells has did =
-        subst HasLeaves
-        (left-is (keeping at (with_effect with_note at.kept (outcome_at wallet_commands log at command)))
-        (outcome_at wallet_commands log at command).says (left, text) did)
-        (mapped (λ leaves. with_note leaves (outcome_at wallet_commands log at command).leaf) at.kept.leaves has)
+        grind (arith, common_steps, left-is, mapped) steps 20000
 
     -- a line of the session on the way to others
     module _ (bytes : List ℕ) (before stream : Stream (SessionState (NodeAt NotesAt)))

@@ -1,7 +1,7 @@
 -- An identity's bytes are one of its role.
-use Rattle.std.proofs.Common.{◌≡◌, ◌<◌, ◌++◌, ◌∷◌, ℕ, Bool, true, false, if◌then◌else◌, List, [], Option, Some, None, is_some, sym, ap, subst, lit<}
+use Rattle.std.proofs.Common.{◌≡◌, ◌<◌, ◌++◌, ◌∷◌, ℕ, Bool, true, false, if◌then◌else◌, List, [], Option, Some, None, is_some, sym, ap, subst, lit<, arith}
 use Rattle.std.specs.Prelude.{IfSome}
-use Rattle.std.specs.Option.{option_map_or}
+use Rattle.std.proofs.lemmas.Grind.{common_steps}
 use Rattle.node_rules.specs.declared.identity.WalletIdentity.{WalletIdentity}
 use Rattle.node_rules.specs.Watcher.{WatcherIdentity, identity_text as watcher_text}
 use Rattle.node_rules.specs.WalletRecords.{short_text, is_first, common_text, identity_text as wallet_text}
@@ -35,10 +35,7 @@ operator-small who tag seed =
 
 operator-seed : (who : Identity) → IsOperator who → (who_is (operator_text who ∷ [])).key_seed ≡ who.key_seed
 unfolding who_is
-operator-seed who is =
-    ap (λ (found : Option Identity).
-    (option_map_or (λ (w : Identity). w) found (record { tag = []; account = 0; key_seed = None })).key_seed)
-    (operator_in-text who is)
+operator-seed who is = grind (arith, common_steps, operator_in-text) steps 20000
 
 wallet-small : (who : WalletIdentity) → Small who.tag → Small who.seed → Small (wallet_text who)
 unfolding wallet_text

@@ -1,10 +1,11 @@
 -- What a wallet's order gives out by a leaf is the message that the leaf binds in the records that it leaves, with its
 -- signature.
-use Rattle.std.proofs.Common.{◌≡◌, ◌<◌, ◌^◌, ◌==◌, ℕ, zero, suc, Bool, true, false, if◌then◌else◌, List, [], ◌∷◌, ◌++◌, length, map, drop, Option, Some, None, Ok, Err, refl, sym, ap, ◌∙◌, subst}
-use Rattle.std.specs.Prelude.{Result, IfSome, find, slice_get, unwrap_or, option_map, reverse}
+use Rattle.std.proofs.Common.{◌≡◌, ◌<◌, ◌^◌, ◌==◌, ℕ, zero, suc, Bool, true, false, if◌then◌else◌, List, [], ◌∷◌, ◌++◌, length, map, drop, Option, Some, None, refl, sym, ap, ◌∙◌, subst, arith}
+use Rattle.std.specs.Prelude.{Result, IfSome, find, slice_get, option_map, reverse}
 use Rattle.std.specs.Option.{option_map_or}
 use Rattle.std.specs.List.{range_with_len}
 use Rattle.std.proofs.lemmas.Option.{slice_get-map}
+use Rattle.std.proofs.lemmas.Grind.{common_steps}
 use Rattle.plasma_tx.specs.declared.owner.Owner.{Owner}
 use Rattle.plasma_tx.specs.declared.call.RootCall.{RootCall}
 use Rattle.plasma_tx.specs.Views.{blocks}
@@ -16,7 +17,7 @@ use Rattle.leaf_journal.proofs.Messages.{messages-append}
 use Rattle.node_rules.specs.declared.answers.Sent.{Sent}
 use Rattle.node_rules.specs.declared.refusal.WalletRefusal.{WalletRefusal}
 use Rattle.node_rules.specs.WalletRecords.{leaves_in}
-use Rattle.node_rules.specs.Wallet.{WalletRecords, WalletEffect, who, used, sent_by, send_body, names_coin, last_leaf, accept_effect, send_effect, again_by, again_answer, leave_effect, reclaim_effect, migrate_effect}
+use Rattle.node_rules.specs.Wallet.{WalletRecords, WalletEffect, who, used, sent_by, send_body, names_coin, last_leaf, accept_effect, send_effect, again_answer, leave_effect, reclaim_effect, migrate_effect}
 use Rattle.node_rules.specs.WalletCommandLaws.{FitWords, sent_body, AddsSent}
 use Rattle.node_rules.proofs.WalletRole.{sends_add_their_leaves}
 use Rattle.node_replies.specs.declared.reply.Reply.{Reply}
@@ -42,12 +43,7 @@ pub record IsOfLeaf (wallet : WalletRecords) (q : ℕ) (made : List ℕ) : Type 
 
 found-passes : {X : Type 0} (test : X → Bool) (xs : List X) (x : X) → find test xs ≡ Some x → test x ≡ true
 found-passes test [] x found = absurd (cc found)
-found-passes test (y ∷ ys) x found = by (found-passes test ys x) (test y) refl found
-  where
-    by : (find test ys ≡ Some x → test x ≡ true) → (b : Bool) → test y ≡ b
-        → (if b then Some y else find test ys) ≡ Some x → test x ≡ true
-    by again true is same = (let one : y ≡ x = cc same in subst (λ z. test z ≡ true) one is)
-    by again false is same = again same
+found-passes test (y ∷ ys) x found = grind (arith, common_steps, found-passes test ys x) steps 20000
 
 pub got-behind : {X : Type 0} (xs ys : List X) (k : ℕ) (x : X) → slice_get xs k ≡ Some x → slice_get (xs ++ ys) k ≡ Some x
 got-behind [] ys k x got = absurd (cc got)
@@ -94,12 +90,7 @@ module _ (dig : List ℕ → List ℕ) (log : List RootCall) (wallet : WalletRec
   -- an order that isn't answered with one
   other-gives : {A : Type 0} (give : A → Response) → ((done : A) (q : ℕ) → (give done).reply ≡ Reply.Sent q → ⊥)
       → (effect : WalletEffect (Result A WalletRefusal)) → GivesLeaf (wallet_doing give effect)
-  other-gives give never effect q = by effect.answer
-    where
-      by : (answer : Result _ WalletRefusal) → (answered wallet_cause give answer).reply ≡ Reply.Sent q
-          → IsOfLeaf (with_added wallet effect.note effect.leaf) q (answered wallet_cause give answer).made
-      by (Ok done) is = absurd (never done q is)
-      by (Err why) is = absurd (cc is)
+  other-gives give never effect q = grind (arith, common_steps, with_added) steps 20000
 
   send-gives : (coin : ℕ) (to : Owner) (last : Option ℕ) → coin < 2 ^ 64 → IsOwner to → IfSome last (λ n. n < 2 ^ 64)
       → GivesLeaf (wallet_doing on_sent (send_effect dig wallet log coin to last))
@@ -155,22 +146,7 @@ module _ (dig : List ℕ → List ℕ) (log : List RootCall) (wallet : WalletRec
       → (answered wallet_cause on_sent (again_answer wallet coin)).reply ≡ Reply.Sent q
       → IsOfLeaf wallet q (answered wallet_cause on_sent (again_answer wallet coin)).made
   unfolding again_answer
-  again-gives coin q = by (last_leaf (leaves_in wallet.leaves) coin) refl
-    where
-      by : (o : Option ℕ) → last_leaf (leaves_in wallet.leaves) coin ≡ o
-          → (answered wallet_cause on_sent (again_by wallet o)).reply ≡ Reply.Sent q
-          → IsOfLeaf wallet q (answered wallet_cause on_sent (again_by wallet o)).made
-      by None none is = absurd (cc is)
-      by (Some k) found is =
-          let there = last-binds coin k found in
-          let number : k ≡ q = cc is in
-          record {
-            message = there.0;
-            bound = subst (λ (j : ℕ). slice_get (messages_of wallet.leaves) j ≡ Some there.0) number there.1;
-            is =
-                ap (λ (o : Option (List ℕ)). (sent_by (who wallet) k (unwrap_or o [])).bytes) there.1
-                ∙ ap (λ (j : ℕ). (sent_by (who wallet) j there.0).bytes) number;
-          }
+  again-gives coin q = grind (arith, common_steps, last-binds) steps 150000
 
   -- what an order gives out by a leaf
   pub order-gives : (order : WalletOrder) → IsSaneOrder order → GivesLeaf (wallet_does dig log wallet order)

@@ -1,8 +1,9 @@
 -- What stands on a node's disks stands behind each later call.
-use Rattle.std.proofs.Common.{◌≡◌, ◌⊎◌, ℕ, true, List, [], ◌∷◌, ◌++◌, Option, Some, None, refl, sym, ap, ◌∙◌, subst, inl, inr}
+use Rattle.std.proofs.Common.{◌≡◌, ◌⊎◌, ℕ, true, List, [], ◌∷◌, ◌++◌, Option, Some, None, sym, ap, ◌∙◌, subst, inl, inr, arith}
 use Rattle.std.specs.List.{All, AllByRecursion}
 use Rattle.std.proofs.lemmas.List.Elements.{All-from_recursion, All-weaker}
-use Rattle.crash_disk.specs.Disk.{History, fresh_history, content, MayLeave, FaultPlan}
+use Rattle.std.proofs.lemmas.Grind.{common_steps}
+use Rattle.crash_disk.specs.Disk.{History, content, MayLeave, FaultPlan}
 use Rattle.crash_disk.proofs.Left.{content_may_be_left, fresh_disk_leaves_itself}
 use Rattle.gate_journal.specs.Journal.{Keeps}
 use Rattle.node_journal.specs.Role.{are_of}
@@ -15,7 +16,7 @@ use Rattle.run_endings.specs.declared.status.Status.TheVariants.{Done, NotJourna
 use Rattle.operator_rules.specs.Records.{who_is}
 use Rattle.node_runs.specs.Sessions.{Outside}
 use Rattle.node_lives.specs.Disks.{Pair}
-use Rattle.node_lives.specs.Calls.{Begun, Asked, ToBegin, ToRun, ToSign, ToUseNoDisk, DoesAsked, Starves, Call}
+use Rattle.node_lives.specs.Calls.{Begun, Asked, ToBegin, ToRun, DoesAsked, Starves, Call}
 use Rattle.node_lives.specs.Disks.{Lies, Stays, Crashed, BothLie, BothTell}
 use Rattle.node_lives.specs.Lives.{LieBehind, IsLife}
 use Rattle.node_lives.specs.Standing.{identity_alone, kinds_of, LeavesStay, Stand}
@@ -32,18 +33,7 @@ use Rattle.node_lives.proofs.Begun.{begun-stands}
 
 -- the call runs a node of the role, or it doesn't
 own-run : (asked : Asked) (role : Role) → (asked ≡ ToRun role) ⊎ (asked ≡ ToRun role → ⊥)
-own-run (ToBegin other identity) role = inr (λ is. cc is)
-own-run (ToSign message) role = inr (λ is. cc is)
-own-run ToUseNoDisk role = inr (λ is. cc is)
-own-run (ToRun Wallet) Wallet = inl refl
-own-run (ToRun Wallet) Watcher = inr (λ is. cc is)
-own-run (ToRun Wallet) Operator = inr (λ is. cc is)
-own-run (ToRun Watcher) Wallet = inr (λ is. cc is)
-own-run (ToRun Watcher) Watcher = inl refl
-own-run (ToRun Watcher) Operator = inr (λ is. cc is)
-own-run (ToRun Operator) Wallet = inr (λ is. cc is)
-own-run (ToRun Operator) Watcher = inr (λ is. cc is)
-own-run (ToRun Operator) Operator = inl refl
+own-run asked role = grind (arith, common_steps) steps 20000
 
 module _ {D : Type 0} (told : D → Option History) (plan : D → Option FaultPlan) (faults : D → ℕ)
     (dig : List ℕ → List ℕ) where
@@ -53,13 +43,7 @@ module _ {D : Type 0} (told : D → Option History) (plan : D → Option FaultPl
       → (before : History) × (told left ≡ Some before) × LeavesNoMore before now
   lies-no-more left next (Stays same) now is = (now, ap told (sym same) ∙ is, λ image may. may)
   lies-no-more left next (Crashed before image was may there) now is =
-      (let one : fresh_history image ≡ now = cc (there, is) in (
-        before,
-        was,
-        λ again leaves. subst (MayLeave before)
-            (sym (fresh_disk_leaves_itself image again (subst (λ (h : History). MayLeave h again) (sym one) leaves)))
-            may,
-      ))
+      grind (arith, common_steps, fresh_disk_leaves_itself) steps 20000
 
   -- an operator's leaves, where it has a key
   leaves-lie : (seed : Option (List ℕ)) (leaves : List (List ℕ)) (left next : D) → Lies told left next
@@ -178,13 +162,7 @@ module _ {D : Type 0} (told : D → Option History) (plan : D → Option FaultPl
         by : DoesAsked told plan faults dig call.asked call.old call.new call.outside call.status
             ⊎ Starves call.old call.new call.status
             → Kept role first call.asked call.status call.new
-        by (inr starves) =
-            (let quiet = starves-quiet told plan faults dig call.old call.new call.status starves in
-            record {
-              runs = λ own wrong. (let none = quiet.0 in cc (none, wrong));
-              begins = λ other identity asked wrong. (let none = quiet.0 in cc (none, wrong));
-              stands = quiet-stand role first call.old call.new tells quiet.1 stand;
-            })
+        by (inr starves) = grind (arith, common_steps, starves-quiet, quiet-stand) steps 20000
         by (inl did) = elim (own-run call.asked role) [
           | inr never ↦
               foreign-keeps role first call.asked call.old call.new call.outside call.status never tells stand did

@@ -1,6 +1,7 @@
 -- What each answered line keeps holds behind all of them.
 use Rattle.std.proofs.Common.{◌≡◌, ◌≤◌, ◌||◌, ◌&&◌, not, ℕ, ◌+◌, Bool, true, false, if◌then◌else◌, ltb, List, [], ◌∷◌, ◌++◌, length, Result, Ok, Err, refl, subst, arith}
 use Rattle.std.proofs.lemmas.Bool.Decides.{nat_tests}
+use Rattle.std.proofs.lemmas.Grind.{common_steps}
 use Rattle.streamed_lines.specs.declared.TheConstants.{MOST_LINES}
 use Rattle.streamed_lines.specs.declared.ending.Ending.{Ending}
 use Rattle.streamed_lines.specs.declared.ending.Ending.TheVariants.{ReadFault, TooLong}
@@ -33,10 +34,7 @@ module _ {R C : Type 0} (rules : Rules R C) (P : Stream R → Type 0)
   answered-keeps : (stream next : Stream R) (line : List ℕ) (outcome : Result (R × List ℕ) (Stop C))
       → next_number stream ≤ MOST_LINES → P stream → rules.next stream.run line ≡ outcome
       → stream_or stream outcome ≡ Ok next → P next
-  answered-keeps stream next line (Err stop) few here is goes = absurd (cc goes)
-  answered-keeps stream next line (Ok answered) few here is goes =
-      (let same : with_answer stream answered ≡ next = cc goes in
-      subst P same (keeps stream line answered few here is))
+  answered-keeps stream next line outcome few here is goes = grind (arith, common_steps) steps 20000
 
   tested-keeps : (start : ℕ) (stream next : Stream R) (line : List ℕ) (long waits : Bool)
       → is_too_long (next_number stream) start line ≡ long → P stream

@@ -4,6 +4,7 @@ use Rattle.std.proofs.Common.{◌≡◌, ◌⊎◌, ◌<◌, ◌≤◌, ℕ, zer
 use Rattle.std.specs.Option.{option_map}
 use Rattle.std.specs.List.{All}
 use Rattle.std.proofs.lemmas.List.Elements.{All-nil, All-cons, All-head, All-tail}
+use Rattle.std.proofs.lemmas.Grind.{common_steps}
 use Rattle.crash_disk.specs.Disk.{Step, DeviceCall, History, LeavesOnly}
 use Rattle.crash_disk.specs.Calls.{WhereTold, passed, failed_after, stopped_after, made_of, after_course}
 use Rattle.gate_journal.specs.Image.{most, spelled}
@@ -141,11 +142,7 @@ drive history count = record { history = history; met = count }
 
 keeps-at : (at : NotesAt) (history : History) → Rests at → Tells at history
     → Keeps told met at (drive history at.faults)
-keeps-at at history rests tells = record {
-  told_is = sym tells.told_is;
-  faults_are = refl;
-  settled = telling (drive history at.faults) (λ now. IsSettled now at.records) (rests history tells);
-}
+keeps-at at history rests tells = grind (arith, common_steps, telling) steps 20000
 
 -- a part that is to tell this
 record KeepsPart (leaves : Option NotesAt) (history : Option History) : Type 0 where

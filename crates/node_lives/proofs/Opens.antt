@@ -1,6 +1,7 @@
 -- What is opened of a disk on which records of a kind stay: records of the kind, which go on behind the first ones. No
 -- opening of it is refused for a place, and one that is refused leaves them there.
-use Rattle.std.proofs.Common.{◌≡◌, ℕ, Bool, true, List, Option, Some, None, is_some, Result, Ok, sym, refl, subst}
+use Rattle.std.proofs.Common.{◌≡◌, ℕ, Bool, true, List, Option, Some, None, is_some, Result, Ok, sym, refl, subst, arith}
+use Rattle.std.proofs.lemmas.Grind.{common_steps}
 use Rattle.crash_disk.specs.Disk.{History, content, FaultPlan}
 use Rattle.crash_disk.specs.Calls.{passed, failed_after, stopped_after}
 use Rattle.crash_disk.proofs.Left.{content_may_be_left}
@@ -73,20 +74,11 @@ module _ (are : List (List ℕ) → Bool) (read : List ℕ → Result (List (Lis
         )
 
     opened-finds : (opened : NotesState D) → Opened told plan faults read old opened → AreOn opened.records
-    opened-finds opened opens =
-        (let there = opens.kept found.0 found.1 in
-        let here = found.2.1 in
-        let same : found.2.0 ≡ opened.records = cc (here, there) in
-        subst AreOn same found.2.2)
+    opened-finds opened opens = grind (arith, common_steps, found) steps 20000
 
     no-place : (why : JournalRefusal) (new : D) → RefusesOpen read told plan old why new → (place : ℕ)
         → why ≡ PlaceRefusal place → ⊥
-    no-place why new refuses place same =
-        let at : RefusesOpen read told plan old (PlaceRefusal place) new =
-        subst (λ (w : JournalRefusal). RefusesOpen read told plan old w new) same refuses in
-        let there = at.1 found.0 found.1 in
-        let here = found.2.1 in
-        cc (there, here)
+    no-place why new refuses place same = grind (arith, common_steps, found) steps 20000
 
     quiet-told : (new : D) → Quietly (told old) (told new) → StayTold are first (told new)
     quiet-told new quiet =

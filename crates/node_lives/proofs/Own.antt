@@ -1,6 +1,7 @@
 -- What a session's lines leave of a node whose commands keep what is asked of its records: such records, which go on
 -- behind the first ones, and disks that keep them.
-use Rattle.std.proofs.Common.{◌≡◌, ◌≤◌, ◌⊎◌, ℕ, Bool, false, List, [], Option, Some, None, is_some, Result, Ok, Err, refl, sym, ap, subst, inl, inr, arith}
+use Rattle.std.proofs.Common.{◌≡◌, ◌≤◌, ◌⊎◌, ℕ, Bool, false, List, Option, Some, None, is_some, Result, Ok, Err, refl, sym, ap, subst, inl, inr, arith}
+use Rattle.std.proofs.lemmas.Grind.{common_steps}
 use Rattle.crash_disk.specs.Disk.{History, FaultPlan}
 use Rattle.plasma_tx.specs.declared.call.RootCall.{RootCall}
 use Rattle.plasma_tx.specs.Views.{blocks}
@@ -12,7 +13,6 @@ use Rattle.streamed_lines.specs.declared.TheConstants.{MOST_LINES}
 use Rattle.streamed_lines.specs.Streams.{Stream}
 use Rattle.streamed_lines.specs.Reading.{next_text}
 use Rattle.run_endings.specs.declared.status.Status.{Status}
-use Rattle.run_endings.specs.declared.status.Status.TheVariants.{Done, Refused, Usage, BadLine, ReadFault, WriteFault, DeviceFault, NoMemory, TooLong, NotJournal, AlreadyMade}
 use Rattle.node_replies.specs.Orders.{with_record}
 use Rattle.node_answers.specs.Answers.{Outcome}
 use Rattle.node_roles.specs.Notes.{NotesAt, with_note}
@@ -36,10 +36,7 @@ pub all-same : (records : WalletRecords) → GoOn records records
 all-same records = record { notes = itself records.notes; leaves = itself records.leaves }
 
 pub both-on : (first old now : WalletRecords) → GoOn first old → GoOn old now → GoOn first now
-both-on first old now on more = record {
-  notes = further first.notes old.notes now.notes on.notes more.notes;
-  leaves = further first.leaves old.leaves now.leaves on.leaves more.leaves;
-}
+both-on first old now on more = grind (arith, common_steps, further) steps 20000
 
 -- with what a command adds
 abbrev pub with_added : WalletRecords → Option (List ℕ) → Option (List ℕ) → WalletRecords
@@ -53,10 +50,7 @@ more-on first records (Some body) on = one_more first records body on
 
 pub adds-on : (first records : WalletRecords) (note leaf : Option (List ℕ)) → GoOn first records
     → GoOn first (with_added records note leaf)
-adds-on first records note leaf on = record {
-  notes = more-on first.notes records.notes note on.notes;
-  leaves = more-on first.leaves records.leaves leaf on.leaves;
-}
+adds-on first records note leaf on = grind (arith, common_steps, more-on) steps 20000
 
 pub noted : (at : NotesAt) (added : Option (List ℕ)) → (with_note at added).records ≡ with_record at.records added
 noted at None = refl
@@ -71,21 +65,7 @@ pub with-added : (P : WalletRecords → Type 0) (kept : Parts NotesAt) (outcome 
     → (is_some kept.leaves ≡ false → P (with_added (wallet_records (records_at kept)) outcome.note None))
     → P (with_added (wallet_records (records_at kept)) outcome.note outcome.leaf)
     → P (wallet_records (records_at (with_effect with_note kept outcome)))
-with-added P kept outcome = by kept.leaves
-  where
-    by : (leaves : Option NotesAt)
-        → (is_some leaves ≡ false → P (with_added (records_with kept.notes leaves) outcome.note None))
-        → P (with_added (records_with kept.notes leaves) outcome.note outcome.leaf)
-        → P (wallet_records (records_at (with_effect with_note (record { notes = kept.notes; leaves = leaves })
-        outcome)))
-    by None one both =
-        subst (λ (l : List (List ℕ)). P (record { notes = l; leaves = [] })) (sym (noted kept.notes outcome.note))
-        (one refl)
-    by (Some leaves) one both =
-        subst (λ (l : List (List ℕ)). P (record { notes = l; leaves = (with_note leaves outcome.leaf).records }))
-        (sym (noted kept.notes outcome.note))
-        (subst (λ (l : List (List ℕ)). P (record { notes = with_record kept.notes.records outcome.note; leaves = l }))
-        (sym (noted leaves outcome.leaf)) both)
+with-added P kept outcome = grind (arith, common_steps, noted) steps 20000
 
 -- where an answered command leaves a node
 pub left-is : {A : Type 0} (now : A) (says : Result (List ℕ) (List ℕ)) (left : A × List ℕ)
@@ -98,17 +78,7 @@ broken-left : {A L : Type 0} (command_in : List ℕ → Option L) (Left : A → 
     (Unanswered : List RootCall → A → L → Type 0) (status : Status) (ended : Bool) (bytes : List ℕ)
     (stream : Stream (SessionState A)) → BrokenAt command_in Left Unanswered status ended bytes stream
     → Left stream.run.node ⊎ AtNext command_in ended bytes stream Unanswered
-broken-left command_in Left Unanswered WriteFault ended bytes stream is = inl is
-broken-left command_in Left Unanswered NoMemory ended bytes stream is = is
-broken-left command_in Left Unanswered Done ended bytes stream is = absurd is
-broken-left command_in Left Unanswered Refused ended bytes stream is = absurd is
-broken-left command_in Left Unanswered Usage ended bytes stream is = absurd is
-broken-left command_in Left Unanswered BadLine ended bytes stream is = absurd is
-broken-left command_in Left Unanswered ReadFault ended bytes stream is = absurd is
-broken-left command_in Left Unanswered DeviceFault ended bytes stream is = absurd is
-broken-left command_in Left Unanswered TooLong ended bytes stream is = absurd is
-broken-left command_in Left Unanswered NotJournal ended bytes stream is = absurd is
-broken-left command_in Left Unanswered AlreadyMade ended bytes stream is = absurd is
+broken-left command_in Left Unanswered status ended bytes stream is = grind (arith, common_steps) steps 150000
 
 -- ---- records of which something is asked
 

@@ -1,7 +1,8 @@
 -- What a run of a node leaves on disks on which records of its role stand: they stand still, and so do those of the
 -- lines that it answered.
-use Rattle.std.proofs.Common.{◌≡◌, ℕ, Bool, true, List, [], Option, Some, None, is_some, Ok, refl, sym, ap, ◌∙◌, subst, inl, inr}
+use Rattle.std.proofs.Common.{◌≡◌, ℕ, Bool, true, List, [], Option, Some, None, is_some, Ok, refl, sym, ap, ◌∙◌, subst, inl, inr, arith}
 use Rattle.std.proofs.lemmas.List.{append-nil}
+use Rattle.std.proofs.lemmas.Grind.{common_steps}
 use Rattle.crash_disk.specs.Disk.{History, FaultPlan}
 use Rattle.gate_journal.specs.Image.{journal_in}
 use Rattle.gate_journal.specs.Journal.{Keeps as KeepsRecords}
@@ -81,11 +82,7 @@ module _ {D : Type 0} (told : D → Option History) (plan : D → Option FaultPl
     none-runs = record { runs = runs; stands = stands; goes = λ one is. absurd (cc is) }
 
     one-runs : (ran : Ran) → RanOn role first new ran → RunOn role first new status (Some ran)
-    one-runs ran on = record {
-      runs = runs;
-      stands = stands;
-      goes = λ one is. (let same : ran ≡ one = cc is in subst (RanOn role first new) same on);
-    }
+    one-runs ran on = grind (arith, common_steps) steps 20000
 
   -- a session over disks of which each stays by itself
   pub each-run : {L : Type 0} (are others : List (List ℕ) → Bool) (Good : WalletRecords → Type 0)
@@ -113,13 +110,7 @@ module _ {D : Type 0} (told : D → Option History) (plan : D → Option FaultPl
   alone-own : (kinds : Kinds) (first : WalletRecords) (old : D) → OpensRole kinds first old → first.leaves ≡ []
       → (opened : NotesState D) → Opened told plan faults (role_in kinds) old opened
       → IsOwn dig (AreAlone kinds) first (node_found told plan faults dig (alone opened))
-  alone-own kinds first old notes none opened opens =
-      let finds = notes.finds opened opens in
-      record {
-        dig_is = refl;
-        good = record { notes = finds.is; leaves = refl };
-        on = record { notes = finds.on; leaves = none-on first.leaves none };
-      }
+  alone-own kinds first old notes none opened opens = grind (arith, common_steps, notes, none-on) steps 20000
 
   -- ---- an operator
 

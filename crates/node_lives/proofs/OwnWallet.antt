@@ -1,18 +1,18 @@
 -- What a run of a wallet leaves on its two disks, where both are a wallet's: they stay so, with the records of the
 -- lines that it answered.
-use Rattle.std.proofs.Common.{◌≡◌, ◌≤◌, ◌<◌, ◌^◌, ℕ, true, List, Option, Some, None, Ok, refl, ap, ◌∙◌, subst, inl, inr, arith}
+use Rattle.std.proofs.Common.{◌≡◌, ◌≤◌, ◌<◌, ◌^◌, ℕ, List, Option, Some, None, Ok, refl, ap, subst, inl, inr, arith}
+use Rattle.std.proofs.lemmas.Grind.{common_steps}
 use Rattle.crash_disk.specs.Disk.{History, content, FaultPlan}
 use Rattle.crash_disk.specs.Calls.{WhereTold}
 use Rattle.crash_disk.proofs.Left.{content_may_be_left}
-use Rattle.gate_journal.specs.Image.{journal_in}
 use Rattle.gate_journal.specs.Journal.{Keeps as KeepsRecords}
 use Rattle.node_journal.specs.Notes.{NotesState, Opened}
 use Rattle.node_journal.specs.Role.{role_in}
 use Rattle.gate_journal.specs.declared.refusal.JournalRefusal.{JournalRefusal}
 use Rattle.gate_journal.specs.declared.refusal.JournalRefusal.TheVariants.{NotJournal as PlaceRefusal}
-use Rattle.leaf_journal.specs.Records.{leaf_records_of, leaf_records_read_of, leaf_records_in_of}
+use Rattle.leaf_journal.specs.Records.{leaf_records_in_of}
 use Rattle.node_rules.specs.Wallet.{WalletRecords}
-use Rattle.node_rules.specs.WalletRecords.{wallet_kinds, is_body, leaves_in, notes_of, are_bound_notes}
+use Rattle.node_rules.specs.WalletRecords.{wallet_kinds, is_body}
 use Rattle.node_rules.specs.WalletOpening.{leaves_of}
 use Rattle.node_rules.proofs.WalletGrow.{AreWallet, wallet-parts}
 use Rattle.streamed_lines.specs.declared.TheConstants.{MOST_LINES}
@@ -162,11 +162,7 @@ module _ (dig : List ℕ → List ℕ) where
 
     leaves-are : (opened : NotesState D) → kept.kept.notes ≡ opened.records
         → leaf_records_in_of is_body (leaves_of opened.records) (content of_leaves) ≡ Ok kept.kept.leaves
-    leaves-are opened same =
-        ap (leaf_records_read_of is_body (leaves_of opened.records))
-        (ok-of (journal_in (content of_leaves)) kept.kept.leaves kept.keeps_leaves)
-        ∙ subst (λ (l : List (List ℕ)). leaf_records_of is_body (leaves_of l) kept.kept.leaves ≡ Ok kept.kept.leaves)
-        same role.leaves
+    leaves-are opened same = grind (arith, common_steps, ok-of, kept, role) steps 20000
 
     leaves-same : (opened found : NotesState D) → kept.kept.notes ≡ opened.records
         → Opened told plan faults (leaf_records_in_of is_body (leaves_of opened.records)) leaves found
@@ -215,20 +211,8 @@ module _ (dig : List ℕ → List ℕ) where
       -- none is refused for a place
       refused-place : (place : ℕ)
           → RefusesWallet told plan faults dig notes leaves (PlaceRefusal place) new_notes new_leaves → ⊥
-      refused-place place (inl (refuses, same)) =
-          (let read = role-found (wallet_kinds dig) (content of_notes) kept.kept.notes kept.keeps_notes role.role in
-          let not = refuses.refused.1 of_notes is in cc (read, not))
-      refused-place place (inr (opened, opens, (same, inl refuses))) =
-          (let read = leaves-are opened (notes-same opened opens) in
-          let not = refuses.refused.1 of_leaves also in cc (read, not))
-      refused-place place (inr (opened, opens, (same, inr (behind, opening, one, unbound)))) =
-          (let n = notes-same opened opens in
-          let l = leaves-same opened behind n opening in
-          let bound : are_bound_notes (leaves_in behind.records) (notes_of dig opened.records) ≡ true =
-          subst (λ (r : List (List ℕ)). are_bound_notes (leaves_in behind.records) (notes_of dig r) ≡ true) n
-          (subst (λ (r : List (List ℕ)). are_bound_notes (leaves_in r) (notes_of dig kept.kept.notes) ≡ true) l
-          role.bound) in
-          cc (bound, unbound.0))
+      refused-place place refuses =
+          grind (arith, common_steps, role-found, kept, role, leaves-are, notes-same, leaves-same) steps 150000
 
       pub no-place : (why : JournalRefusal)
           → RefusesWallet told plan faults dig notes leaves why new_notes new_leaves → (place : ℕ)

@@ -2,8 +2,9 @@
 use Rattle.std.proofs.Common.{◌≡◌, ◌<◌, ◌||◌, ℕ, Bool, true, false, if◌then◌else◌, eqb, ltb, List, [], ◌∷◌, ◌++◌, length, Option, Some, None, is_some, refl, sym, ◌∙◌, ap, subst, arith, length-append}
 use Rattle.std.specs.Option.{option_map}
 use Rattle.std.proofs.lemmas.List.{append-nil}
+use Rattle.std.proofs.lemmas.Grind.{common_steps}
 use Rattle.crash_disk.specs.Disk.{Step, asks_length, reads, writes, syncs, History, content, MayLeave, with_call, LeavesOnly}
-use Rattle.crash_disk.specs.Calls.{Course, passed, failed_after, after_course}
+use Rattle.crash_disk.specs.Calls.{Course, after_course}
 use Rattle.gate_journal.specs.Image.{kept_records, spelled_record, spelled_records}
 use Rattle.gate_journal.specs.Journal.{Keeps}
 use Rattle.gate_journal.specs.Steps.{append_steps, open_steps}
@@ -54,14 +55,8 @@ asking = asks_length ∷ []
 
 pub asked-quiet : (failed : Bool) (old new : Option History) → MadeOver (with_call asks_length failed) old new
     → Quietly old new
-asked-quiet true old new made before now is also image may =
-    let one = made-now (with_call asks_length true) old new before now made is also in
-    leaves_now before (failed_after 0) asking (MayLeave before)
-    (quiet_leaves (failed_after 0) asking before (tt, tt)) image (subst (λ (h : History). MayLeave h image) one may)
-asked-quiet false old new made before now is also image may =
-    let one = made-now (with_call asks_length false) old new before now made is also in
-    leaves_now before passed asking (MayLeave before)
-    (quiet_leaves passed asking before (tt, tt)) image (subst (λ (h : History). MayLeave h image) one may)
+asked-quiet failed old new made before now is also image may =
+    grind (arith, common_steps, made-now, leaves_now, quiet_leaves) steps 20000
 
 -- ---- an opening
 

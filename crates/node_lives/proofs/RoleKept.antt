@@ -1,5 +1,6 @@
 -- The commands of a watcher, and of an operator without a key, keep the role of their records, and add no leaf.
-use Rattle.std.proofs.Common.{◌≡◌, ℕ, true, List, [], None, ap, ◌∙◌}
+use Rattle.std.proofs.Common.{◌≡◌, ℕ, true, List, [], None, arith}
+use Rattle.std.proofs.lemmas.Grind.{common_steps}
 use Rattle.plasma_tx.specs.declared.call.RootCall.{RootCall}
 use Rattle.node_journal.specs.Role.{Kinds, are_of}
 use Rattle.node_rules.specs.Wallet.{WalletRecords}
@@ -30,10 +31,7 @@ pub record AreAlone (kinds : Kinds) (records : WalletRecords) : Type 0 where
 alone-grows : (kinds : Kinds) (records : WalletRecords) (outcome : Outcome) → AreAlone kinds records
     → outcome.leaf ≡ None → are_of kinds (with_record records.notes outcome.note) ≡ true
     → Grows (AreAlone kinds) records outcome
-alone-grows kinds records outcome is leafless notes = record {
-  noted = record { notes = notes; leaves = is.leaves };
-  both = record { notes = notes; leaves = ap (with_record records.leaves) leafless ∙ is.leaves };
-}
+alone-grows kinds records outcome is leafless notes = grind (arith, common_steps) steps 20000
 
 pub watcher-grows : (dig : List ℕ → List ℕ) → Growing dig (AreAlone (watcher_kinds dig)) watcher_commands
 unfolding watcher_outcome
@@ -48,11 +46,8 @@ outcome-grows : (dig : List ℕ → List ℕ) (log : List RootCall) (records : W
     → AreAlone operator_kinds records
     → Grows (AreAlone operator_kinds) records (operator_outcome dig log records.notes line)
 unfolding operator_outcome
-outcome-grows dig log records (OperatorLine.Order order) is =
-    alone-grows operator_kinds records (operator_outcome dig log records.notes (OperatorLine.Order order)) is
-    (orders_add_no_leaf dig log records.notes order) (operator_orders_keep dig log records.notes order is.notes)
-outcome-grows dig log records (OperatorLine.Receipt transfer due) is = record { noted = is; both = is }
-outcome-grows dig log records OperatorLine.Migrate is = record { noted = is; both = is }
+outcome-grows dig log records line is =
+    grind (arith, common_steps, alone-grows, orders_add_no_leaf, operator_orders_keep) steps 20000
 
 pub operator-grows : (dig : List ℕ → List ℕ) → Growing dig (AreAlone operator_kinds) operator_commands
 operator-grows dig log parts line command few spells is = outcome-grows dig log (wallet_records parts) command is

@@ -3,6 +3,7 @@ use Rattle.std.proofs.Common.{◌≡◌, ◌≤◌, ◌⊎◌, ◌&&◌, ◌==�
 use Rattle.std.proofs.lemmas.Bool.{and_parts, eqb-true}
 use Rattle.std.specs.Result.{result_ok}
 use Rattle.std.specs.List.{slice_range}
+use Rattle.std.proofs.lemmas.Grind.{common_steps}
 use Rattle.plasma_tx.specs.Spelling.{number_at}
 use Rattle.gate_journal.specs.Image.{spelled, journal_in}
 use Rattle.gate_journal.specs.Journal.{Keeps}
@@ -68,16 +69,11 @@ operator-marks (mark ∷ bytes) is =
     ]
 
 operator-mark : (body : List ℕ) → is_some (operator_in body) ≡ true → 33 ≤ mark_of body
-operator-mark body is = elim (operator-marks body is) [
-  | inl first ↦ omega (arith, first)
-  | inr second ↦ omega (arith, second)
-]
+operator-mark body is = grind (arith, common_steps, operator-marks) steps 20000
 
 signer-mark : (body : List ℕ) → is_some (seed_in body) ≡ true → mark_of body ≡ 49
 unfolding seed_in
-signer-mark [] is = absurd (cc is)
-signer-mark (mark ∷ seed) is =
-    marked mark 49 (length seed == 32) (some-if ((mark == 49) && (length seed == 32)) seed is)
+signer-mark body is = grind (arith, common_steps, marked, some-if) steps 20000
 
 module _ (dig : List ℕ → List ℕ) where
   identities-apart : (one other : Role) (body : List ℕ) → (other ≡ one → ⊥)
@@ -117,19 +113,11 @@ module _ (kinds : Kinds) where
     pub is : kinds.is_identity identity ≡ true
 
   pub begins-with : (records : List (List ℕ)) → are_of kinds records ≡ true → BeginsWith records
-  begins-with [] is = absurd (cc is)
-  begins-with (identity ∷ notes) is =
-      record { identity = identity; notes = notes; are = refl; is = (and_parts _ _ is).0 }
+  begins-with records is = grind (arith, common_steps, and_parts) steps 20000
 
   pub role-recorded : (image : List ℕ) (records : List (List ℕ)) → Keeps records image → are_of kinds records ≡ true
       → HasRecord image
-  role-recorded image records keeps is =
-      let b = begins-with records is in
-      record {
-        first = b.identity;
-        others = b.notes;
-        keeps = keeps ∙ ap (λ (l : List (List ℕ)). Some l) b.are;
-      }
+  role-recorded image records keeps is = grind (arith, common_steps, begins-with) steps 20000
 
   -- records that are read of an image are kept by it, and of the role; and the other way round
   pub role-read : (image : List ℕ) (records : List (List ℕ)) → role_in kinds image ≡ Ok records
@@ -164,12 +152,7 @@ pub kinds-apart : (one other : Kinds)
     (records found : List (List ℕ)) → Keeps records image → are_of one records ≡ true → role_in other image ≡ Ok found
     → ⊥
 kinds-apart one other apart image records found keeps is read =
-    let theirs = role-read other image found read in
-    let same = keeps-same image records found keeps theirs.0 in
-    let b = begins-with one records is in
-    let c = begins-with other found theirs.1 in
-    let e : b.identity ≡ c.identity = cc (b.are, same, c.are) in
-    apart c.identity (subst (λ (i : List ℕ). one.is_identity i ≡ true) e b.is) c.is
+    grind (arith, common_steps, role-read, keeps-same, begins-with) steps 20000
 
 module _ (dig : List ℕ → List ℕ) where
   pub none-other : (one other : Role) (image : List ℕ) (records found : List (List ℕ)) → (other ≡ one → ⊥)

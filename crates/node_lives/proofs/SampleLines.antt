@@ -1,6 +1,7 @@
 -- The lines of the sample life's runs: the log, and a command behind it.
-use Rattle.std.proofs.Common.{◌≡◌, ◌+◌, ◌&&◌, not, ◌++◌, ℕ, Bool, true, false, if◌then◌else◌, List, [], ◌∷◌, length, codes, Option, Some, None, Result, Ok, Err, refl, ap, ◌∙◌}
+use Rattle.std.proofs.Common.{◌≡◌, ◌+◌, ◌&&◌, not, ◌++◌, ℕ, Bool, true, false, if◌then◌else◌, List, [], ◌∷◌, length, codes, Option, Some, None, Result, Ok, Err, refl, ap, ◌∙◌, arith}
 use Rattle.std.specs.Prelude.{replicate}
+use Rattle.std.proofs.lemmas.Grind.{common_steps}
 use Rattle.plasma_base.specs.HexText.{hex_in, digits_in}
 use Rattle.plasma_tx.specs.Chain.{Chain}
 use Rattle.line_forms.specs.Forms.{value_in}
@@ -22,7 +23,6 @@ use Rattle.node_roles.specs.Nodes.{NodeAt, keeping, node_with, node_does}
 use Rattle.node_roles.specs.Roles.{wallet_parts, wallet_commands}
 use Rattle.node_sessions.specs.Sessions.{SessionState, begun, joins, first_log, leaves, done, command_line, next_line}
 use Rattle.streamed_lines.specs.declared.ending.Ending.{Ending}
-use Rattle.streamed_lines.specs.declared.ending.Stop.{Stop}
 use Rattle.streamed_lines.specs.declared.ending.Ending.TheVariants.{Complete, ReadFault, TooLong, Ended}
 use Rattle.streamed_lines.specs.Lines.{lines_in, is_whole, text_of, is_too_long}
 use Rattle.streamed_lines.specs.Streams.{Rules, Stream, Streamed, no_lines, next_number, with_answer, stream_or, goes_on, line_stream, stream_from, stream_of}
@@ -59,9 +59,7 @@ line-answered : {R C : Type 0} (rules : Rules R C) (ended : Bool) (start : ℕ) 
     → stream_from rules ended start stream (line ∷ lines)
     ≡ stream_from rules ended (start + length line) (with_answer stream answered) lines
 line-answered {R} {C} rules ended start stream line lines answered fits whole is =
-    line-comes rules ended start stream line lines fits whole
-    ∙ ap (λ (o : Result (R × List ℕ) (Stop C)). goes_on stream (stream_or stream o)
-    (λ next. stream_from rules ended (start + length line) next lines)) is
+    grind (arith, common_steps, line-comes) steps 20000
 
 -- ---- what is spelled
 

@@ -1,5 +1,6 @@
 -- The seed of an operator's key, which its first record says, and later records too.
-use Rattle.std.proofs.Common.{◌≡◌, ℕ, List, [], ◌∷◌, ◌++◌, Option, None, refl, ap, ◌∙◌}
+use Rattle.std.proofs.Common.{◌≡◌, ℕ, List, [], ◌∷◌, Option, None, refl, arith}
+use Rattle.std.proofs.lemmas.Grind.{common_steps}
 use Rattle.gate_journal.specs.Life.{Continue}
 use Rattle.node_rules.specs.Wallet.{WalletRecords}
 use Rattle.operator_rules.specs.Records.{who_is}
@@ -16,12 +17,7 @@ pub record HasSeed (seed : Option (List ℕ)) (records : List (List ℕ)) : Type
 -- records that go on have the same identity
 pub seed-on : (seed : Option (List ℕ)) (first later : List (List ℕ)) → HasSeed seed first → Continue first later
     → HasSeed seed later
-seed-on seed first later has (more, is) = record {
-  identity = has.identity;
-  notes = has.notes ++ more;
-  are = is ∙ ap (λ (l : List (List ℕ)). l ++ more) has.are;
-  seed_is = has.seed_is;
-}
+seed-on seed first later has (more, is) = grind (arith, common_steps) steps 20000
 
 first-alone : (identity : List ℕ) (notes : List (List ℕ))
     → (who_is (identity ∷ notes)).key_seed ≡ (who_is (identity ∷ [])).key_seed
@@ -30,10 +26,7 @@ first-alone identity notes = refl
 
 pub seed-is : (seed : Option (List ℕ)) (records : List (List ℕ)) → HasSeed seed records
     → (who_is records).key_seed ≡ seed
-seed-is seed records has =
-    ap (λ (l : List (List ℕ)). (who_is l).key_seed) has.are
-    ∙ first-alone has.identity has.notes
-    ∙ has.seed_is
+seed-is seed records has = grind (arith, common_steps, first-alone) steps 20000
 
 module _ (dig : List ℕ → List ℕ) where
   -- So it is of an operator's records. Where it has a key the digests fit, and where it has none there are no leaves.
@@ -51,11 +44,4 @@ module _ (dig : List ℕ → List ℕ) where
 
   pub alone-seeded : (role : Role) (identity : List ℕ) → DigestsFit dig role identity
       → Seeded role (identity_alone identity)
-  alone-seeded Operator identity digests = record {
-    seed = (who_is (identity ∷ [])).key_seed;
-    has = record { identity = identity; notes = []; are = refl; seed_is = refl };
-    digests = digests;
-    none = λ keyless. refl;
-  }
-  alone-seeded Watcher identity digests = refl
-  alone-seeded Wallet identity digests = tt
+  alone-seeded role identity digests = grind (arith, common_steps) steps 20000

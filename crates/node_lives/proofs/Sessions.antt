@@ -1,18 +1,17 @@
 -- What each command of a session keeps holds behind its lines; and its log has a block for each line at most.
-use Rattle.std.proofs.Common.{◌≡◌, ◌≤◌, ℕ, ◌+◌, Bool, true, false, if◌then◌else◌, List, [], ◌∷◌, Option, Some, None, is_some, Result, Ok, Err, refl, sym, ap, ◌∙◌, subst, arith, bytes_eq}
+use Rattle.std.proofs.Common.{◌≡◌, ◌≤◌, ℕ, ◌+◌, Bool, true, false, if◌then◌else◌, List, [], ◌∷◌, Option, Some, None, is_some, Result, Ok, Err, refl, sym, ap, ◌∙◌, subst, arith}
 use Rattle.std.specs.Prelude.{option_map}
+use Rattle.std.proofs.lemmas.Grind.{common_steps}
 use Rattle.streamed_lines.specs.declared.TheConstants.{MOST_LINES}
-use Rattle.streamed_lines.specs.declared.ending.Stop.TheVariants.{Ends}
 use Rattle.streamed_lines.specs.Streams.{Rules, Stream, no_lines, next_number, with_answer, stream_from, stream_of}
 use Rattle.streamed_lines.specs.Reading.{RunsTo}
 use Rattle.plasma_tx.specs.declared.call.RootCall.{RootCall}
-use Rattle.plasma_tx.specs.declared.call.RootCall.TheVariants.{Deposit, Commit}
 use Rattle.plasma_tx.specs.Chain.{Chain}
 use Rattle.plasma_tx.specs.Views.{blocks}
 use Rattle.root_log.specs.declared.first_line.FirstLine.{FirstLine}
 use Rattle.root_log.specs.Grammar.{chain_in, chain_of, call_in, appended}
 use Rattle.root_log.specs.EndOfLog.{is_end_of_log}
-use Rattle.node_sessions.specs.Sessions.{SessionState, OrStop, begun, calls_of, other_chain, first_log, longer_log, joins, done, leaves, command_line, commanded, log_line, line_of, next_line, session_rules}
+use Rattle.node_sessions.specs.Sessions.{SessionState, OrStop, begun, calls_of, first_log, longer_log, joins, done, leaves, command_line, commanded, log_line, line_of, next_line, session_rules}
 use Rattle.node_lives.proofs.Lines.{lines-keep, stream-keeps, runs-keep}
 
 -- ---- the log of a session
@@ -20,9 +19,7 @@ use Rattle.node_lives.proofs.Lines.{lines-keep, stream-keeps, runs-keep}
 -- a call makes a block at most
 blocks-more : (call : RootCall) (log : List RootCall) → blocks (call ∷ log) ≤ blocks log + 1
 unfolding blocks
-blocks-more (Deposit account amount key) log = omega arith
-blocks-more (Commit account root) log = omega arith
-blocks-more call log = omega arith
+blocks-more call log = grind (arith, common_steps) steps 20000
 
 first-in : (found : Option FirstLine) (chain : Chain) → option_map chain_of found ≡ Some chain → chain.log ≡ []
 first-in None chain is = absurd (cc is)
@@ -35,21 +32,12 @@ first-empty line chain is = first-in _ chain is
 first-blocks : (tag : List ℕ) (found : Option Chain) (chain : Chain)
     → ((named : Chain) → found ≡ Some named → named.log ≡ []) → first_log tag found ≡ Ok chain → blocks chain.log ≡ 0
 unfolding blocks
-first-blocks tag None chain empty is = absurd (cc is)
-first-blocks tag (Some named) chain empty is = by (bytes_eq named.tag tag) is
-  where
-    by : (same : Bool) → (if same then Ok named else Err (Ends other_chain)) ≡ Ok chain → blocks chain.log ≡ 0
-    by true is = (let one : named ≡ chain = cc is in
-        ap (λ (c : Chain). blocks c.log) (sym one) ∙ ap blocks (empty named refl))
-    by false is = absurd (cc is)
+first-blocks tag found chain empty is = grind (arith, common_steps) steps 20000
 
 longer-blocks : (chain longer : Chain) (found : Option RootCall)
     → longer_log (option_map (λ call. record chain { log = call ∷ chain.log }) found) ≡ Ok longer
     → blocks longer.log ≤ blocks chain.log + 1
-longer-blocks chain longer None is = absurd (cc is)
-longer-blocks chain longer (Some call) is =
-    (let one : record chain { log = call ∷ chain.log } ≡ longer = cc is in
-    subst (λ (c : Chain). blocks c.log ≤ blocks chain.log + 1) one (blocks-more call chain.log))
+longer-blocks chain longer found is = grind (arith, common_steps, blocks-more) steps 20000
 
 -- ---- its commands
 
@@ -84,30 +72,11 @@ module _ {A L : Type 0} (tag : List ℕ) (command_in : List ℕ → Option L)
         → ((longer : Chain) → found ≡ Ok longer → blocks longer.log ≤ count + 1)
         → (if ends then Ok (record session { is_over = true }, []) else joins session found) ≡ Ok answered
         → Holds answered.0 (count + 1)
-    logged chain there true found log is =
-        same-node (record session { is_over = true }) refl (omega (arith, holds.few)) (ap is_some there) cc
-    logged chain there false found log is = joined found log is
+    logged chain there ends found log is = grind (arith, common_steps, same-node, joined) steps 20000
 
     commanded-holds : (chain : Chain) → session.log ≡ Some chain → (spelled : Option L) → command_in line ≡ spelled
         → leaves session (command_line does chain.log session.node spelled) ≡ Ok answered → Holds answered.0 (count + 1)
-    commanded-holds chain there None spells is = absurd (cc is)
-    commanded-holds chain there (Some command) spells is = by (does chain.log session.node command) refl is
-      where
-        in_log : blocks chain.log ≤ count
-        in_log = subst (λ (log : Option Chain). blocks (calls_of log) ≤ count) there holds.few
-
-        by : (outcome : Result (A × List ℕ) (List ℕ)) → does chain.log session.node command ≡ outcome
-            → leaves session (done outcome) ≡ Ok answered → Holds answered.0 (count + 1)
-        by (Err cause) did is = absurd (cc is)
-        by (Ok left) did is =
-            (let same : (record session { node = left.0 }, left.1) ≡ answered = cc is in
-            subst (λ (a : SessionState A × List ℕ). Holds a.0 (count + 1)) same (record {
-              node =
-                  step chain.log session.node line command left.0 left.1 (omega (arith, in_log, few)) spells holds.node
-                  did;
-              few = omega (arith, holds.few);
-              logged = holds.logged;
-            }))
+    commanded-holds chain there spelled spells is = grind (arith, common_steps, logged) steps 20000
 
     later : (chain : Chain) → session.log ≡ Some chain → (over : Bool)
         → (if over then leaves session (command_line does chain.log session.node (command_in line))
@@ -166,11 +135,7 @@ module _ {A L : Type 0} (tag : List ℕ) (command_in : List ℕ → Option L)
 -- the command that a line spells behind a log is one that the line spells
 pub spelled-in : {A L : Type 0} (command_in : List ℕ → Option L) (session : SessionState A) (line : List ℕ)
     (command : L) → commanded command_in session line ≡ Some command → command_in line ≡ Some command
-spelled-in command_in session line command is = by session.is_over is
-  where
-    by : (over : Bool) → (if over then command_in line else None) ≡ Some command → command_in line ≡ Some command
-    by true is = is
-    by false is = absurd (cc is)
+spelled-in command_in session line command is = grind (arith, common_steps) steps 20000
 
 -- What a command does that a line spells behind lines, where the line is answered: its answer, and where it leaves the
 -- node.

@@ -1,6 +1,7 @@
 -- What stays of a journal's records where a disk tells: each image of a crash now keeps records of a kind that continue
 -- some.
-use Rattle.std.proofs.Common.{◌≡◌, ℕ, Bool, true, List, [], ◌∷◌, ◌++◌, length, Option, Some, ◌∙◌, ap, subst, inl, inr, append_assoc}
+use Rattle.std.proofs.Common.{◌≡◌, ℕ, Bool, true, List, [], ◌∷◌, ◌++◌, length, Option, Some, subst, inl, inr, arith}
+use Rattle.std.proofs.lemmas.Grind.{common_steps}
 use Rattle.crash_disk.specs.Disk.{History, MayLeave, LeavesOnly}
 use Rattle.crash_disk.specs.Calls.{WhereTold, failed_after, after_course}
 use Rattle.gate_journal.specs.Image.{spelled}
@@ -14,10 +15,7 @@ use Rattle.node_lives.proofs.Quiet.{Quietly, MadeOver, made-now, told-before}
 
 -- what continues records continues those that these continue
 pub further : (first old now : List (List ℕ)) → Continue first old → Continue old now → Continue first now
-further first old now on more = (
-  on.0 ++ more.0,
-  more.1 ∙ ap (λ (l : List (List ℕ)). l ++ more.0) on.1 ∙ append_assoc first on.0 more.0,
-)
+further first old now on more = grind (arith, common_steps) steps 20000
 
 -- an image keeps one list of records
 pub keeps-same : (image : List ℕ) (one other : List (List ℕ)) → Keeps one image → Keeps other image → one ≡ other

@@ -2,6 +2,7 @@
 use Rattle.std.proofs.Common.{◌≡◌, ◌≤◌, ◌++◌, ℕ, true, false, List, length, Option, Some, Result, Ok, Err, ◌∙◌, ap, inl, inr, arith}
 use Rattle.std.specs.Prelude.{OnOk}
 use Rattle.std.specs.Option.{option_map}
+use Rattle.std.proofs.lemmas.Grind.{common_steps}
 use Rattle.crash_disk.specs.Disk.{Step, asks_length, History, content, MayLeave, FaultPlan, with_call}
 use Rattle.crash_disk.specs.Calls.{WhereTold, Course, Made}
 use Rattle.crash_disk.proofs.Left.{content_may_be_left}
@@ -65,9 +66,7 @@ module _ {D : Type 0} (told : D → Option History) (plan : D → Option FaultPl
 
   stops-taken : (P : Type 0) (identity image : List ℕ) (old new : D) (why : InitRefusal) → HasRecord image
       → StopsBehindOver told plan identity image old why new → P
-  stops-taken P identity image old new DeviceFault has is = never-taken P image has is.1
-  stops-taken P identity image old new NoMemory has is = never-taken P image has is.0
-  stops-taken P identity image old new (AlreadyMade count) has is = absurd is
+  stops-taken P identity image old new why has is = grind (arith, common_steps, never-taken) steps 20000
 
   -- of a wallet's two disks
   module _ (faults : D → ℕ) (identity : List ℕ) (notes leaves new_notes new_leaves : D) where

@@ -1,14 +1,15 @@
 -- The commands of a wallet keep its role, and their notes are bytes.
-use Rattle.std.proofs.Common.{◌≡◌, ◌<◌, ◌⊎◌, ◌^◌, ℕ, true, List, Option, Some, None, refl, sym, ap, subst, inl, inr, lit<}
+use Rattle.std.proofs.Common.{◌≡◌, ◌<◌, ◌⊎◌, ◌^◌, ℕ, true, List, Option, Some, None, refl, sym, ap, subst, lit<, arith}
 use Rattle.std.specs.Prelude.{IfSome}
 use Rattle.std.specs.List.{All}
 use Rattle.std.proofs.lemmas.List.Elements.{All-push}
+use Rattle.std.proofs.lemmas.Grind.{common_steps}
 use Rattle.plasma_tx.specs.declared.call.RootCall.{RootCall}
 use Rattle.plasma_tx.specs.Views.{blocks}
 use Rattle.plasma_tx.specs.Spelling.{AreBytes}
 use Rattle.node_rules.specs.Kept.{kept_of}
 use Rattle.node_rules.specs.WalletRecords.{note_text}
-use Rattle.node_rules.specs.Wallet.{WalletRecords, WalletEffect, who, coin_state, accept_effect, send_effect, leave_from, leave_effect, reclaim_effect, migrate_effect}
+use Rattle.node_rules.specs.Wallet.{WalletRecords, WalletEffect, who, coin_state, accept_effect, leave_from, leave_effect, reclaim_effect}
 use Rattle.node_rules.specs.WalletOpening.{is_wallet}
 use Rattle.node_rules.proofs.WalletAdded.{leave-note, migrate-note}
 use Rattle.node_replies.specs.Orders.{with_record, wallet_does}
@@ -70,14 +71,8 @@ module _ (dig : List ℕ → List ℕ) (log : List RootCall) (wallet : WalletRec
 
   order-bytes : (order : WalletOrder) → IsFitOrder order → IfSome (wallet_does dig log wallet order).note AreBytes
   unfolding wallet_does
-  order-bytes (WalletOrder.Accept bundle) fit = accept-bytes bundle fit
-  order-bytes (WalletOrder.Send coin to last) fit =
-      if-none (send_effect dig wallet log coin to last).note (send-note dig wallet log coin to last)
-  order-bytes (WalletOrder.Again coin) fit = tt
-  order-bytes (WalletOrder.Leave coin) fit = leave-bytes coin
-  order-bytes (WalletOrder.Reclaim bundle) fit = reclaim-bytes bundle
-  order-bytes WalletOrder.Migrate fit = if-none (migrate_effect wallet).note (migrate-note wallet)
-  order-bytes WalletOrder.Watch fit = tt
+  order-bytes order fit =
+      grind (arith, common_steps, accept-bytes, if-none, send-note, leave-bytes, reclaim-bytes, migrate-note)
 
 -- ---- a line's order
 
@@ -104,15 +99,7 @@ push-bytes records (Some body) are one = All-push AreBytes records body are one
 grows-by : (dig : List ℕ → List ℕ) (wallet : WalletRecords) (outcome : Outcome) → IsGood dig wallet
     → (outcome.note ≡ None) ⊎ (outcome.leaf ≡ None)
     → IsGood dig (with_added wallet outcome.note outcome.leaf) → Grows (IsGood dig) wallet outcome
-grows-by dig wallet outcome good one both = record {
-  noted = elim one [
-    | inl none ↦
-        subst (λ (note : Option (List ℕ)). IsGood dig (with_added wallet note None)) (sym none) good
-    | inr none ↦
-        subst (λ (leaf : Option (List ℕ)). IsGood dig (with_added wallet outcome.note leaf)) none both
-  ];
-  both = both;
-}
+grows-by dig wallet outcome good one both = grind (arith, common_steps, with_added) steps 20000
 
 module _ (dig : List ℕ → List ℕ) (log : List RootCall) (wallet : WalletRecords) (good : IsGood dig wallet)
     (few : blocks log < 2 ^ 64) where
