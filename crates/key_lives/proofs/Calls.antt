@@ -47,11 +47,6 @@ module _ {D : Type 0} (told : D → Option History) (plan : D → Option FaultPl
         let kept = each call (tells call start later earlier life) handed in
         (kept.0, (kept.1, rest.1))
 
-    pub stands-last : (later earlier : List (Call told plan faults dig)) (start : Call told plan faults dig)
-        → IsLife told plan faults dig (later ++ start ∷ earlier) → Stands start.new
-        → Stands (newest told plan faults dig later start).new
-    stands-last later earlier start life stand = (all-stand later earlier start life stand).0
-
     pub all-are : (later earlier : List (Call told plan faults dig)) (start : Call told plan faults dig)
         → IsLife told plan faults dig (later ++ start ∷ earlier) → Stands start.new → All Is later
     all-are later earlier start life stand =

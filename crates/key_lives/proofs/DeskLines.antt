@@ -1,18 +1,17 @@
 -- The lines of the sample operator's run, and what they come to.
-use Rattle.std.proofs.Common.{◌≡◌, ◌≢◌, ◌≤◌, ◌<◌, ◌+◌, ◌-◌, ◌*◌, ◌/◌, ◌%◌, ◌^◌, ◌==◌, ◌&&◌, not, ℕ, zero, suc, Bool, true, false, if◌then◌else◌, List, [], ◌∷◌, ◌++◌, length, take, replicate, codes, slice_index, Some, Result, Ok, Err, refl, sym, ap, ◌∙◌, subst, arith, length-append, lit<}
+use Rattle.std.proofs.Common.{◌≡◌, ◌≢◌, ◌≤◌, ◌<◌, ◌-◌, ◌*◌, ◌/◌, ◌%◌, ◌^◌, ◌==◌, ◌&&◌, not, ℕ, zero, suc, Bool, true, false, if◌then◌else◌, List, [], ◌∷◌, ◌++◌, length, take, replicate, codes, slice_index, Some, Result, Ok, refl, sym, ap, ◌∙◌, subst, arith, length-append, lit<}
 use Rattle.std.specs.List.{list_all}
 use Rattle.std.proofs.lemmas.Bool.{and_parts, and_from, le-ltb}
-use Rattle.std.proofs.lemmas.List.Elements.{All-nil, All-cons}
+use Rattle.std.proofs.lemmas.List.Elements.{All-nil}
 use Rattle.std.proofs.lemmas.List.Folds.{list_all-append}
+use Rattle.std.proofs.lemmas.Grind.{common_steps}
 use Rattle.hex.specs.Hex.{encode_with, lower_digits}
 use Rattle.plasma_base.specs.HexText.{hex_text}
 use Rattle.line_forms.specs.Forms.{text_of}
 use Rattle.line_forms.specs.Tokens.{number_text, number_in}
 use Rattle.line_forms.proofs.NumberLaws.{number_text-in}
 use Rattle.lms_sign.specs.Tree.{signature_of}
-use Rattle.lms_sign.specs.declared.types.LmsTypes.{LmsTypes}
-use Rattle.lms_sign.specs.Types.{height, is_supported}
-use Rattle.lms_sign.specs.Valid.{is_valid}
+use Rattle.lms_sign.specs.Types.{height}
 use Rattle.lms_sign.proofs.Laws.{signatures_are_valid, key-types}
 use Rattle.plasma_tx.specs.declared.call.RootCall.{RootCall}
 use Rattle.plasma_tx.specs.declared.signed_tx.SignedTx.{SignedTx}
@@ -28,11 +27,8 @@ use Rattle.node_lines.specs.Grammar.{operator_line_text, operator_line_in}
 use Rattle.node_lines.proofs.GrammarLaws.{operator_line_in-text}
 use Rattle.operator_rules.proofs.Openings.{leaf-short}
 use Rattle.node_replies.proofs.ByteTexts.{small-append, small-body, small-signature, small-key, small-zeros, length-key}
-use Rattle.streamed_lines.specs.declared.ending.Ending.{Ending}
-use Rattle.streamed_lines.specs.declared.ending.Ending.TheVariants.{ReadFault, TooLong}
-use Rattle.streamed_lines.specs.declared.TheConstants.{MOST_LINES, MOST_LINE_BYTES, MOST_INPUT_BYTES}
 use Rattle.streamed_lines.specs.Lines.{is_whole, is_too_long, HasNoFeed, text_of as line_text_of}
-use Rattle.streamed_lines.specs.Streams.{Rules, Stream, next_number, with_answer, line_stream, stream_or}
+use Rattle.streamed_lines.specs.Streams.{Rules, Stream, next_number, with_answer, line_stream}
 use Rattle.streamed_lines.specs.Reading.{RunsTo, DoesLine}
 use Rattle.streamed_lines.proofs.StreamLaws.{runs-on}
 use Rattle.sparse_merkle.specs.TreeDigest.{leaf_of}
@@ -40,7 +36,6 @@ use Rattle.gate_journal.specs.Image.{most}
 use Rattle.node_journal.specs.Effect.{Effect, first_cause, unless}
 use Rattle.leaf_journal.specs.Records.{marker, with_number}
 use Rattle.plasma_tx.specs.declared.body.Body.{Body}
-use Rattle.plasma_tx.specs.declared.signed_tx.TxRefusal.{TxRefusal}
 use Rattle.plasma_tx.specs.Spelling.{body_at_start}
 use Rattle.plasma_tx.specs.Views.{blocks, coins, coin_at}
 use Rattle.operator_rules.specs.declared.refusal.OfferRefusal.{OfferRefusal}
@@ -63,10 +58,7 @@ plain bytes = list_all (λ byte. not (byte == 10)) bytes
 
 pub no-feed : (bytes : List ℕ) → plain bytes ≡ true → HasNoFeed bytes
 no-feed [] is = All-nil (λ byte. byte ≢ 10)
-no-feed (byte ∷ bytes) is =
-    let parts = and_parts (not (byte == 10)) (plain bytes) is in
-    All-cons (λ b. b ≢ 10) byte bytes (λ same. absurd (cc (same, parts.0)))
-    (no-feed bytes parts.1)
+no-feed (byte ∷ bytes) is = grind (arith, common_steps, and_parts) steps 20000
 
 plain-both : (one other : List ℕ) → plain one ≡ true → plain other ≡ true → plain (one ++ other) ≡ true
 plain-both one other first second =
@@ -129,13 +121,7 @@ module _ {R C : Type 0} (rules : Rules R C) (first : R) where
       → DoesLine rules start stream (text ++ 10 ∷ []) (Ok (with_answer stream answered))
   unfolding line_stream
   line-does start text stream answered fits does ended may =
-      let line = text ++ 10 ∷ [] in
-      let next : Result (Stream R) (Ending C) = stream_or stream (rules.next stream.run (line_text_of line)) in
-      ap (λ (long : Bool). if long then Err (TooLong (next_number stream))
-      else if not ended && not (is_whole line) then Err ReadFault else next) fits
-      ∙ ap (λ (w : Bool). if not ended && not w then Err ReadFault else next) (line-whole text)
-      ∙ ap (λ (waits : Bool). if waits then Err ReadFault else next) (whole-waits ended)
-      ∙ ap (stream_or stream) (ap (rules.next stream.run) (line-text text) ∙ does)
+      grind (arith, common_steps, line-whole, whole-waits, line-text) steps 20000
 
   pub answered-line : (front text : List ℕ) (stream : Stream R) (answered : R × List ℕ)
       → RunsTo rules first front stream
@@ -149,14 +135,7 @@ module _ {R C : Type 0} (rules : Rules R C) (first : R) where
 -- few lines, and few bytes
 pub fits-limits : (n start : ℕ) (text : List ℕ) → n ≤ 100 → start ≤ 100000 → length text ≤ 10000
     → is_too_long n start (text ++ 10 ∷ []) ≡ false
-fits-limits n start text few early short =
-    let bytes : length (line_text_of (text ++ 10 ∷ [])) ≡ length text = ap length (line-text text) in
-    rw (
-      le-ltb MOST_LINES n (omega (arith, few)),
-      le-ltb MOST_LINE_BYTES (length (line_text_of (text ++ 10 ∷ []))) (omega (arith, bytes, short)),
-      le-ltb MOST_INPUT_BYTES (start + length (text ++ 10 ∷ []))
-          (omega (arith, early, short, length-append text (10 ∷ []))),
-    ) refl
+fits-limits n start text few early short = grind (arith, common_steps, line-text, le-ltb) steps 20000
 
 -- ---- the key, and the transfer
 
@@ -186,10 +165,7 @@ signed-read = signed_in-text tx is-body
 
 pub owner-signed : is_signed_by tx owner ≡ true
 unfolding is_signed_by height
-owner-signed =
-    ap (λ (t : LmsTypes). is_supported t && is_valid owner.key (body_text body) tx.signature)
-    (key-types owner_secret refl refl)
-    ∙ signatures_are_valid owner_secret 0 (body_text body) refl refl (lit< tt)
+owner-signed = grind (arith, common_steps, key-types, signatures_are_valid) steps 20000
 
 pub transfer-short : length transfer ≤ 2632
 transfer-short = leaf-short (replicate 32 0) transfer tx owner signed-read owner-signed
@@ -226,10 +202,7 @@ unfolding call_text line_text text_of hex_text
 deposit-words = refl
 
 deposit-is : deposit_line ≡ codes "call 0 deposit 1 0x" ++ encode_with lower_digits owner.key
-deposit-is =
-    deposit-words
-    ∙ (λ i. codes "call " ++ (zero-text i ++ (codes " deposit " ++ (one-text i
-    ++ (codes " 0x" ++ encode_with lower_digits owner.key)))))
+deposit-is = grind (arith, common_steps, deposit-words, zero-text, one-text) steps 20000
 
 receipt-words : receipt_line ≡ codes "receipt 0x" ++ (encode_with lower_digits transfer ++ (codes " " ++ number_text 2))
 unfolding operator_line_text text_of hex_text
@@ -245,31 +218,13 @@ deposit-plain = ap plain deposit-is ∙ plain-both (codes "call 0 deposit 1 0x")
     (encoded-plain owner.key)
 
 pub receipt-plain : plain receipt_line ≡ true
-receipt-plain =
-    ap plain receipt-is
-    ∙ plain-both (codes "receipt 0x") (encode_with lower_digits transfer ++ codes " 2") refl
-    (plain-both (encode_with lower_digits transfer) (codes " 2") (encoded-plain transfer) refl)
+receipt-plain = grind (arith, common_steps, receipt-is, plain-both, encoded-plain) steps 20000
 
 pub deposit-short : length deposit_line ≤ 200
-deposit-short =
-    omega (
-      arith,
-      ap length deposit-is,
-      length-append (codes "call 0 deposit 1 0x") (encode_with lower_digits owner.key),
-      length-encoded owner.key,
-      length-own,
-    )
+deposit-short = grind (arith, common_steps, deposit-is, length-encoded, length-own) steps 20000
 
 pub receipt-short : length receipt_line ≤ 6000
-receipt-short =
-    omega (
-      arith,
-      ap length receipt-is,
-      length-append (codes "receipt 0x") (encode_with lower_digits transfer ++ codes " 2"),
-      length-append (encode_with lower_digits transfer) (codes " 2"),
-      length-encoded transfer,
-      transfer-short,
-    )
+receipt-short = grind (arith, common_steps, receipt-is, length-encoded, transfer-short) steps 20000
 
 -- ---- what the commands come to
 
@@ -294,10 +249,7 @@ module _ (dig : List ℕ → List ℕ) (long : (bytes : List ℕ) → length (di
 
   offered-is : offer_effect dig (identity ∷ []) log transfer ≡ taken
   unfolding offer_effect who_is identity_in
-  offered-is =
-      ap (λ (r : Result SignedTx TxRefusal). offer_of dig (replicate 32 0) log (forest_in (identity ∷ [])) transfer r)
-      signed-read
-      ∙ signed-is ∙ ap (λ (b : Bool). unless (first_cause ((not b, BadSignature) ∷ [])) taken) owner-signed
+  offered-is = grind (arith, common_steps, signed-read, signed-is, owner-signed) steps 20000
 
   -- the receipt, the note and the leaf's record
   abbrev pub receipt : List ℕ

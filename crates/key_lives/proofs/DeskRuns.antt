@@ -1,5 +1,6 @@
 -- What a run of an operator with a key gave out stands in the records that it left.
-use Rattle.std.proofs.Common.{◌≡◌, ◌⊎◌, ◌<◌, ℕ, List, length, Option, Some, None, Ok, refl, sym, ap, subst, inl, inr}
+use Rattle.std.proofs.Common.{◌≡◌, ◌⊎◌, ◌<◌, ℕ, List, length, Option, Some, None, Ok, refl, sym, ap, subst, inl, inr, arith}
+use Rattle.std.proofs.lemmas.Grind.{common_steps}
 use Rattle.crash_disk.specs.Disk.{History, FaultPlan}
 use Rattle.leaf_journal.specs.Records.{messages_of}
 use Rattle.node_journal.specs.Notes.{NotesState, Opened}
@@ -57,18 +58,7 @@ module _ {D : Type 0} (told : D → Option History) (plan : D → Option FaultPl
 
   pub gives-in : (call : Call told plan faults dig) (q : ℕ) (receipt : List ℕ)
       (out : GivesReceipt told plan faults dig call q receipt) → GivesIn out.ran q receipt
-  gives-in call q receipt out = record {
-    before = out.before;
-    lines = out.lines;
-    answered = out.answered;
-    line = out.line;
-    spelled = out.spelled;
-    transfer = out.transfer;
-    due = out.due;
-    ordered = out.ordered;
-    leaf = out.leaf;
-    gives = out.gives;
-  }
+  gives-in call q receipt out = grind (arith, common_steps) steps 150000
 
   -- what one line adds that is answered with a receipt
   module _ (seed : List ℕ) (digests : (bytes : List ℕ) → length (dig bytes) ≡ 32) (session : SessionState (NodeAt NotesAt))

@@ -1,7 +1,7 @@
 -- A small life of an operator with a key is one: its run gives a receipt by the key's first leaf.
-use Rattle.std.proofs.Common.{◌≡◌, ◌≤◌, ◌==◌, not, ℕ, Bool, true, false, if◌then◌else◌, List, [], ◌∷◌, ◌++◌, length, replicate, codes, slice_index_or, Option, Some, None, Ok, refl, sym, ap, ◌∙◌, subst, inl, arith, append-nil, length-append, lit<, lit≤}
-use Rattle.std.specs.Option.{option_map}
+use Rattle.std.proofs.Common.{◌≡◌, ◌≤◌, ◌==◌, not, ℕ, true, false, List, [], ◌∷◌, ◌++◌, length, replicate, codes, slice_index_or, Option, Some, None, Ok, refl, sym, ap, ◌∙◌, subst, inl, arith, append-nil, length-append, lit<, lit≤}
 use Rattle.std.proofs.lemmas.Bool.{and_parts, not-true}
+use Rattle.std.proofs.lemmas.Grind.{common_steps}
 use Rattle.crash_disk.specs.Disk.{content}
 use Rattle.crash_disk.specs.Calls.{passed}
 use Rattle.gate_journal.specs.Image.{journal_in}
@@ -13,9 +13,7 @@ use Rattle.node_journal.specs.Parts.{Parts, both}
 use Rattle.node_journal.specs.Role.{are_of, role_in}
 use Rattle.leaf_journal.specs.Records.{marker, leaf_records_read_of, records_behind_of}
 use Rattle.plasma_tx.specs.Chain.{Chain, with_log}
-use Rattle.plasma_tx.specs.declared.call.RootCall.{RootCall}
 use Rattle.plasma_tx.specs.Views.{blocks}
-use Rattle.root_log.specs.Grammar.{call_in}
 use Rattle.operator_rules.specs.Records.{identity_in, operator_kinds, who_is}
 use Rattle.receipt_audit.specs.Promises.{is_promise}
 use Rattle.receipt_audit.specs.Desk.{IssueEffect}
@@ -30,7 +28,7 @@ use Rattle.node_roles.specs.Notes.{NotesAt, with_note}
 use Rattle.node_roles.specs.Parts.{with_effect}
 use Rattle.node_roles.specs.Nodes.{NodeAt, keeping, node_with, node_does}
 use Rattle.node_roles.specs.Roles.{desk_commands}
-use Rattle.node_sessions.specs.Sessions.{SessionState, begun, joins, first_log, longer_log, leaves, done, command_line, next_line}
+use Rattle.node_sessions.specs.Sessions.{SessionState, begun, joins, first_log, leaves, done, command_line, next_line}
 use Rattle.run_endings.specs.Endings.{session_output, last_text}
 use Rattle.run_endings.specs.Outputs.{EndsAs}
 use Rattle.run_endings.specs.declared.status.Status.TheVariants.{Done}
@@ -194,12 +192,7 @@ module _ (dig : List ℕ → List ℕ) (long : (bytes : List ℕ) → length (di
 
   deposits : rules.next named deposit_line ≡ Ok (deposited, [])
   unfolding next_line
-  deposits =
-      ap (λ (b : Bool). if b then Ok (record named { is_over = true }, [])
-      else joins named (longer_log (option_map (λ call. with_log chain (call ∷ chain.log)) (call_in deposit_line))))
-      not-end
-      ∙ ap (λ (c : Option RootCall). joins named
-      (longer_log (option_map (λ call. with_log chain (call ∷ chain.log)) c))) deposit-read
+  deposits = grind (arith, common_steps, chain, not-end, deposit-read) steps 20000
 
   ends-log : rules.next deposited (codes "--") ≡ Ok (over, [])
   unfolding next_line
@@ -259,22 +252,10 @@ module _ (dig : List ℕ → List ℕ) (long : (bytes : List ℕ) → length (di
   input = to_four ++ (receipt_line ++ 10 ∷ [])
 
   long-two : length to_two ≤ 1000
-  long-two =
-      omega (
-        arith,
-        length-append to_one (deposit_line ++ 10 ∷ []),
-        length-append deposit_line (10 ∷ []),
-        deposit-short,
-      )
+  long-two = grind (arith, common_steps, deposit-short) steps 20000
 
   long-four : length to_four ≤ 2000
-  long-four =
-      omega (
-        arith,
-        long-two,
-        length-append to_two (codes "--" ++ 10 ∷ []),
-        length-append to_three (codes "migrate" ++ 10 ∷ []),
-      )
+  long-four = grind (arith, common_steps, long-two) steps 20000
 
   runs-one : RunsTo rules first to_one one
   runs-one =

@@ -3,6 +3,7 @@
 use Rattle.std.proofs.Common.{◌≡◌, ◌<◌, ◌^◌, ◌++◌, ◌∷◌, ℕ, List, [], length, take, Option, Some, Ok, refl, sym, ap, ◌∙◌, subst, arith}
 use Rattle.std.specs.Prelude.{slice_get}
 use Rattle.std.proofs.lemmas.List.{length-take, take-append-drop}
+use Rattle.std.proofs.lemmas.Grind.{common_steps}
 use Rattle.sha2.specs.Sha256.{sha256}
 use Rattle.sha2.proofs.Facts256.{length-sha256}
 use Rattle.lms_sign.specs.declared.secret.Secret.{Secret}
@@ -54,9 +55,7 @@ IsSaneLine (OperatorLine.Receipt transfer due) = AreBytes transfer × (due < 2 ^
 IsSaneLine line = Unit {0}
 
 pub sane-line : (line : OperatorLine) → IsOperatorLine line → IsSaneLine line
-sane-line (OperatorLine.Order order) is = tt
-sane-line (OperatorLine.Receipt transfer due) is = (is.0, is.1.0)
-sane-line OperatorLine.Migrate is = tt
+sane-line line is = grind (arith, common_steps) steps 20000
 
 module _ (seed : List ℕ) (dig : List ℕ → List ℕ) (digests : (bytes : List ℕ) → length (dig bytes) ≡ 32)
     (log : List RootCall) (desk : WalletRecords) (is : IsDesk seed desk) (transfer : List ℕ) (due : ℕ)

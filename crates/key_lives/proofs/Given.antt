@@ -1,5 +1,6 @@
 -- What the records have with what one line of a session adds they have behind the lines that follow it.
 use Rattle.std.proofs.Common.{◌≡◌, ◌≤◌, ◌<◌, ◌+◌, ℕ, true, List, Option, Some, is_some, None, option_map, Ok, refl, sym, ap, ◌∙◌, subst, inl, inr, arith}
+use Rattle.std.proofs.lemmas.Grind.{common_steps}
 use Rattle.crash_disk.specs.Disk.{History, FaultPlan}
 use Rattle.plasma_tx.specs.declared.call.RootCall.{RootCall}
 use Rattle.plasma_tx.specs.Views.{blocks}
@@ -62,10 +63,7 @@ module _ {D : Type 0} (told : D → Option History) (plan : D → Option FaultPl
         (left : NodeAt NotesAt) (text : List ℕ) → blocks log ≤ MOST_LINES → commands.command_in line ≡ Some command
         → HasLeaves at → node_does commands log at command ≡ Ok (left, text) → HasLeaves left
     leaves-step log at line command left text few spells has did =
-        subst HasLeaves
-        (left-is (keeping at (with_effect with_note at.kept (outcome_at commands log at command)))
-        (outcome_at commands log at command).says (left, text) did)
-        (mapped (λ leaves. with_note leaves (outcome_at commands log at command).leaf) at.kept.leaves has)
+        grind (arith, common_steps, left-is, mapped) steps 20000
 
     -- a line of the session on the way to others, with which something holds that stays
     module _ (Holds : WalletRecords → Type 0)

@@ -1,10 +1,11 @@
 -- The records that a signing adds are those of its signer, each behind those before it, and keep what it signs.
-use Rattle.std.proofs.Common.{◌≡◌, ◌<◌, ◌≤◌, ◌+◌, ◌-◌, ◌^◌, ℕ, zero, suc, Bool, true, false, if◌then◌else◌, List, [], ◌∷◌, ◌++◌, length, map, take, codes, Option, Some, None, Ok, refl, sym, ◌∙◌, ap, subst, inl, inr, arith, append_assoc, length-append}
+use Rattle.std.proofs.Common.{◌≡◌, ◌<◌, ◌≤◌, ◌-◌, ◌^◌, ℕ, zero, suc, Bool, true, false, if◌then◌else◌, List, [], ◌∷◌, ◌++◌, length, map, take, codes, Option, Some, None, Ok, refl, sym, ◌∙◌, ap, subst, inl, inr, arith, append_assoc}
 use Rattle.std.proofs.lemmas.Bool.{and_from, and_parts, cases_Bool, eq-eqb, leb-true, lt-ltb, ltb-true}
 use Rattle.std.proofs.lemmas.List.{append-nil, length-take}
 use Rattle.std.proofs.lemmas.Slice.Eq.{bytes_eq-Decides}
 use Rattle.std.specs.Prelude.{◌==◌, ◌&&◌, nat_lt}
 use Rattle.std.specs.Str.{bytes_eq}
+use Rattle.std.proofs.lemmas.Grind.{common_steps}
 use Rattle.sha2.proofs.Facts256.{length-sha256}
 use Rattle.lms_sign.specs.Types.{height, leaf_count}
 use Rattle.lms_sign.specs.Tree.{public_key_of}
@@ -74,13 +75,7 @@ module _ (seed : HssSeed) (records : List (List ℕ)) (message : List ℕ) where
 
 length-key : (secret : Secret) → length secret.id ≡ 16 → length (public_key_of secret) ≡ 56
 unfolding public_key_of
-length-key secret whole = simp length-append (omega (
-  arith,
-  length-u32str secret.types.lms,
-  length-u32str secret.types.ots,
-  length-tree_node secret 1,
-  whole,
-))
+length-key secret whole = grind (arith, common_steps, length-u32str, length-tree_node) steps 20000
 
 module _ (bytes : List ℕ) where
   abbrev pub key : HssSeed
@@ -156,21 +151,11 @@ module _ (bytes : List ℕ) where
     more = records ++ body ∷ []
 
     is_entry : IsEntry (Binds j q message)
-    is_entry =
-        let parts = signable-parts message signable in
-        let few = (are_counted key records are).opened in
-        let small : j < 2 ^ 32 = omega (arith, is.last, few, top-leaves) in
-        let narrow : q < 2 ^ 32 = omega (arith, is.leaf, bottom-leaves) in
-        (small, narrow, parts.0, parts.1)
+    is_entry = grind (arith, common_steps, signable-parts, are_counted, top-leaves, bottom-leaves) steps 20000
 
     binds-on : AreOfKey more
     binds-on =
-        let entries = entries_of records in
-        one_more key records body are
-        (follows_from key records body (Binds j q message) (entries_are_read_back (Binds j q message) is_entry)
-        ∙ and_from ((j + 1 == opened_count entries) && (q == used_in entries)) (nat_lt q (leaf_count key.bottom))
-        (and_from (j + 1 == opened_count entries) (q == used_in entries) (eq-eqb (j + 1) (opened_count entries) is.last)
-        (eq-eqb q (used_in entries) is.next)) (lt-ltb q (leaf_count key.bottom) is.leaf))
+        grind (arith, common_steps, one_more, follows_from, entries_are_read_back, is_entry, and_from, eq-eqb, lt-ltb)
 
     keeps-bound : KeepsBound more (bound_of key j q message)
     keeps-bound =

@@ -1,6 +1,7 @@
 -- At each moment of a signing's appends, and behind them, it may be cut off.
-use Rattle.std.proofs.Common.{◌≡◌, ◌≤◌, ℕ, suc, Bool, true, false, List, [], ◌∷◌, ◌++◌, length, map, take, Option, Some, None, Result, Ok, Err, refl, sym, ap, subst, inl, inr, append_assoc, append-nil}
+use Rattle.std.proofs.Common.{◌≡◌, ◌≤◌, ℕ, suc, Bool, true, false, List, [], ◌∷◌, ◌++◌, length, map, take, Option, Some, None, Result, Ok, Err, refl, sym, ap, subst, inl, inr, append_assoc, append-nil, arith}
 use Rattle.std.specs.List.{All}
+use Rattle.std.proofs.lemmas.Grind.{common_steps}
 use Rattle.crash_disk.specs.Disk.{Step, History, MayLeave, LeavesOnly}
 use Rattle.crash_disk.specs.Calls.{WhereTold, passed, failed_after, stopped_after, after_course}
 use Rattle.gate_journal.specs.Image.{most, spelled}
@@ -73,12 +74,7 @@ record Whole (entries : List Entry) (disk : Drive) (records : List (List ℕ)) (
 whole : (entries : List Entry) (disk : Drive) (records : List (List ℕ)) (history : History)
     → IsSettled disk.history records → Tells (with_all (at disk records) (map entry_text entries)) history
     → Whole entries disk records history
-whole [] disk records history settled tells = record {
-  last = open_at disk records;
-  adds_all = refl;
-  settled = subst (IsSettled disk.history) (sym (append-nil records)) settled;
-  is = cc tells.told_is;
-}
+whole [] disk records history settled tells = grind (arith, common_steps) steps 20000
 whole (entry ∷ entries) disk records history settled tells =
     let body = entry_text entry in
     let fits = (front-fits records body

@@ -4,6 +4,7 @@ use Rattle.std.specs.List.{All, Contains}
 use Rattle.std.specs.Result.{is_ok}
 use Rattle.std.proofs.lemmas.List.Elements.{All-head, All-weaker}
 use Rattle.std.proofs.lemmas.Option.{same_Some}
+use Rattle.std.proofs.lemmas.Grind.{common_steps}
 use Rattle.crash_disk.specs.Disk.{History, FaultPlan}
 use Rattle.gate_journal.proofs.Lives.{itself}
 use Rattle.node_journal.specs.Role.{are_of}
@@ -12,7 +13,7 @@ use Rattle.run_endings.specs.declared.status.Status.TheVariants.{Done}
 use Rattle.node_runs.specs.Sessions.{Outside}
 use Rattle.hss_keys.specs.declared.seed.HssSeed.{HssSeed}
 use Rattle.hss_keys.specs.declared.entry.Entry.{Entry}
-use Rattle.hss_keys.specs.Entries.{entries_of, entry_text, key_at, message_at}
+use Rattle.hss_keys.specs.Entries.{entries_of, entry_text}
 use Rattle.hss_keys.specs.Form.{are_level_records}
 use Rattle.hss_keys.specs.Levels.{HssBoundState, KeepsBound, bound_of}
 use Rattle.hss_keys.proofs.Form.{none_are}
@@ -26,10 +27,10 @@ use Rattle.node_lives.proofs.Stays.{settled-stays}
 use Rattle.node_lives.proofs.Begun.{alone-are, answered-ok, ok-holds}
 use Rattle.node_lives.proofs.Life.{newest, lies-no-more}
 use Rattle.node_lives.proofs.Leaves.{contains-cons}
-use Rattle.key_lives.specs.Signers.{SignerRun, left_by, SignerStands, signer_run_in, SignsBy}
+use Rattle.key_lives.specs.Signers.{left_by, SignerStands, signer_run_in, SignsBy}
 use Rattle.key_lives.specs.SignerLaws.{BeginsSigner, FindsTheSigner, BegunSignersStay, SignedStandIn, SignedRecordsStand, SignersSignOnce}
 use Rattle.key_lives.proofs.Growth.{grown, signing-next}
-use Rattle.key_lives.proofs.Calls.{tells, lies, before, behind, all-are, stands-last}
+use Rattle.key_lives.proofs.Calls.{tells, lies, before, behind, all-are}
 use Rattle.key_lives.proofs.SignerRuns.{identity-seed, RunGoes, CallGoes, call-goes}
 
 module _ {D : Type 0} (told : D → Option History) (plan : D → Option FaultPlan) (faults : D → ℕ)
@@ -105,12 +106,6 @@ module _ {D : Type 0} (told : D → Option History) (plan : D → Option FaultPl
     all-go first =
         all-are told plan faults dig (Stands first) (GoesAt first) (signer-lies first) (each-goes first)
 
-    last-stands : (first : List (List ℕ)) (later earlier : List (Call told plan faults dig))
-        (start : Call told plan faults dig) → IsLife told plan faults dig (later ++ start ∷ earlier)
-        → Stands first start.new → Stands first (newest told plan faults dig later start).new
-    last-stands first =
-        stands-last told plan faults dig (Stands first) (GoesAt first) (signer-lies first) (each-goes first)
-
     -- what a run that is this signer's signed is kept by what it left
     run-keeps : (first : List (List ℕ)) (new : Pair D) (call : Call told plan faults dig) (bound : HssBoundState)
         (signs : SignsBy told plan faults dig call bound)
@@ -141,12 +136,7 @@ module _ {D : Type 0} (told : D → Option History) (plan : D → Option FaultPl
   both-kept : (records : List (List ℕ)) (one other : HssBoundState) → KeepsBound records one → KeepsBound records other
       → one.top_leaf ≡ other.top_leaf
       → (one.bottom ≡ other.bottom) × (one.leaf ≡ other.leaf → one.message ≡ other.message)
-  both-kept records one other first second same =
-      let entries = entries_of records in (
-        same_Some _ _ (sym first.0 ∙ ap (key_at entries) same ∙ second.0),
-        λ same_leaf. same_Some _ _
-            (sym first.1 ∙ (λ i. message_at entries (same i) (same_leaf i)) ∙ second.1),
-      )
+  both-kept records one other first second same = grind (arith, common_steps, same_Some) steps 20000
 
   -- ---- the laws
 
@@ -266,10 +256,7 @@ module _ {D : Type 0} (told : D → Option History) (plan : D → Option FaultPl
     alike : (new : Call told plan faults dig) (later : List (Call told plan faults dig)) → Life (new ∷ later)
         → (made also : HssBoundState) → SignsBy told plan faults dig new made → SignsBy told plan faults dig new also
         → Agree made also
-    alike new later life made also one other =
-        let same : other.run ≡ one.run = (let a = one.is in let b = other.is in cc (a, b)) in
-        both-kept (left_by one.run) made also (newest-keeps new later life made one)
-        (subst (λ (r : SignerRun). KeepsBound (left_by r) also) same (newest-keeps new later life also other))
+    alike new later life made also one other = grind (arith, common_steps, both-kept, newest-keeps) steps 20000
 
     agree : (later : List (Call told plan faults dig)) → Life later → (one other : Call told plan faults dig)
         (made also : HssBoundState) → Contains later one → Contains later other
@@ -279,9 +266,7 @@ module _ {D : Type 0} (told : D → Option History) (plan : D → Option FaultPl
         elim (contains-cons new later one here) [
           | inl is ↦ (elim (contains-cons new later other there) [
             | inl also' ↦
-                alike new later life made also
-                (subst (λ (c : Call told plan faults dig). SignsBy told plan faults dig c made) (sym is) first')
-                (subst (λ (c : Call told plan faults dig). SignsBy told plan faults dig c also) (sym also') second)
+                grind (arith, common_steps, alike) steps 20000
             | inr older ↦
                 cross new later life other older made also
                 (subst (λ (c : Call told plan faults dig). SignsBy told plan faults dig c made) (sym is) first') second

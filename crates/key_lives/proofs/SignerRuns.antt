@@ -1,7 +1,8 @@
 -- What a call leaves of the disks of a signer: what stood there stands, and so does what a signing added.
-use Rattle.std.proofs.Common.{◌≡◌, ◌⊎◌, ℕ, Bool, true, if◌then◌else◌, List, [], ◌∷◌, ◌++◌, length, map, take, Option, Some, None, Result, Ok, Err, refl, sym, ap, ◌∙◌, subst, inl, inr}
+use Rattle.std.proofs.Common.{◌≡◌, ◌⊎◌, ℕ, Bool, true, if◌then◌else◌, List, [], ◌∷◌, ◌++◌, length, map, take, Option, Some, None, Result, Ok, Err, refl, sym, ap, ◌∙◌, subst, inl, inr, arith}
 use Rattle.std.specs.Prelude.{unwrap_or, ◌==◌}
 use Rattle.std.specs.Result.{is_ok}
+use Rattle.std.proofs.lemmas.Grind.{common_steps}
 use Rattle.crash_disk.specs.Disk.{History, content, FaultPlan}
 use Rattle.crash_disk.specs.Calls.{WhereTold}
 use Rattle.crash_disk.proofs.Left.{content_may_be_left}
@@ -45,12 +46,7 @@ IsSigning asked = ⊥
 -- records that are tested so are all that is read
 are-all : (seed : HssSeed) (records : List (List ℕ)) → are_level_records seed records ≡ true
     → level_records seed records ≡ Ok records
-are-all seed records is = by (level_records seed records) refl is
-  where
-    by : (read : Result (List (List ℕ)) ℕ) → level_records seed records ≡ read → is_ok read ≡ true
-        → level_records seed records ≡ Ok records
-    by (Err place) reads wrong = absurd (cc wrong)
-    by (Ok all) reads ok = reads ∙ ap (λ (l : List (List ℕ)). Ok l) (sym (all_same seed records all reads))
+are-all seed records is = grind (arith, common_steps, all_same) steps 20000
 
 -- what a signing says is no lack of a journal
 said-other : (says : Result (List ℕ) (List ℕ)) → (said_output says).status ≡ NotJournal → ⊥
@@ -171,12 +167,7 @@ module _ {D : Type 0} (told : D → Option History) (plan : D → Option FaultPl
     none-goes : (asked : Asked) → ((message : List ℕ) → asked ≡ ToSign message → status ≡ NotJournal → ⊥)
         → ((disks : Begun) (identity : List ℕ) → asked ≡ ToBegin disks identity → status ≡ Done → ⊥)
         → Stands first new → Goes asked None
-    none-goes asked signs begins stands = record {
-      signs = signs;
-      begins = begins;
-      stands = stands;
-      goes = λ one is. absurd (cc is);
-    }
+    none-goes asked signs begins stands = grind (arith, common_steps) steps 20000
 
     ran-goes : (message : List ℕ)
         → (ran : SignerRan told plan faults outside.taken outside.after status message old.notes old.leaves new.notes

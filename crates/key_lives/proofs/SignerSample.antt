@@ -9,10 +9,11 @@ use Rattle.gate_journal.specs.Journal.{Keeps, IsSettled, KeepsWithOrWithout}
 use Rattle.gate_journal.specs.Steps.{open_steps, append_steps}
 use Rattle.gate_journal.proofs.Crash.{settled_now}
 use Rattle.gate_journal.proofs.Rest.{settled_rests, course_leaves, leaves_now, appends_settle}
-use Rattle.node_journal.specs.Begin.{is_taken, journal_steps, init_steps, InitsOver, PassesInit}
+use Rattle.node_journal.specs.Begin.{is_taken, journal_steps, init_steps, PassesInit}
 use Rattle.node_journal.specs.Notes.{NotesState, note_steps, KeepsAtAnyMoment, Opened, Added, AddFailed}
 use Rattle.node_journal.specs.Role.{are_of, role_in}
 use Rattle.std.proofs.lemmas.List.Elements.{All-nil}
+use Rattle.std.proofs.lemmas.Grind.{common_steps}
 use Rattle.lms_sign.specs.Types.{height}
 use Rattle.run_endings.specs.Texts.{device_fault_text}
 use Rattle.run_endings.specs.declared.status.Status.{Status}
@@ -121,13 +122,7 @@ signed_leaves_settled =
 
 pub passes_init : (steps : List ℕ → List Step) (drive : Drive) → is_taken (content drive.history) ≡ false
     → PassesInit told foretold met steps drive (after passed steps false drive)
-passes_init steps drive free = record {
-  inits =
-      telling drive (λ before. InitsOver told foretold steps (content before) drive (Ok tt)
-      (after passed steps false drive))
-      (free, made passed steps _ false drive (all-passed _));
-  count = refl;
-}
+passes_init steps drive free = grind (arith, common_steps, telling, after, made, all-passed) steps 20000
 
 init_passes : InitsPair told foretold met (Some []) (Some (codes "made" ++ 10 ∷ [])) Done sid blank blank begun_notes
     begun_leaves
