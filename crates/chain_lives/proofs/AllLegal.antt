@@ -1,6 +1,7 @@
 -- The events of a chain with its nodes are legal: each run finds what the events before it say of its node.
-use Rattle.std.proofs.Common.{◌≡◌, ◌≢◌, ℕ, ◌==◌, Bool, if◌then◌else◌, List, [], ◌∷◌, ◌++◌, Option, Some, None, refl, sym, ap, ◌∙◌, subst, inl, inr}
+use Rattle.std.proofs.Common.{◌≡◌, ◌≢◌, ℕ, ◌==◌, Bool, if◌then◌else◌, List, [], ◌∷◌, ◌++◌, Option, Some, None, refl, sym, ap, ◌∙◌, subst, inl, inr, arith}
 use Rattle.std.proofs.lemmas.Bool.{cases_eq, eq-eqb, ne_eqb}
+use Rattle.std.proofs.lemmas.Grind.{common_steps}
 use Rattle.crash_disk.specs.Disk.{History, FaultPlan}
 use Rattle.plasma_tx.specs.declared.owner.Owner.{Owner}
 use Rattle.plasma_tx.specs.declared.call.RootCall.{RootCall}
@@ -8,7 +9,7 @@ use Rattle.plasma_tx.specs.Shown.{Rules, tests_by}
 use Rattle.plasma_tx.specs.Table.{answer_to, is_accepted}
 use Rattle.node_rules.specs.declared.identity.WalletIdentity.{WalletIdentity}
 use Rattle.node_rules.specs.WalletRecords.{identity_in, owner_of}
-use Rattle.node_rules.specs.Wallet.{WalletRecords, who}
+use Rattle.node_rules.specs.Wallet.{WalletRecords}
 use Rattle.node_replies.specs.Roles.{Role, Wallet, Watcher, Operator}
 use Rattle.node_lives.specs.Calls.{Begun, Asked, ToBegin, Call}
 use Rattle.node_lives.specs.Lives.{IsLife}
@@ -74,11 +75,8 @@ module _ {D : Type 0} (told : D → Option History) (plan : D → Option FaultPl
   tells-aside : (role : Role) (tag : List ℕ) (n : ℕ) (events more : List Event) (records : WalletRecords)
       → log_of more ≡ log_of events → said more n ≡ said events n → left_by more n ≡ left_by events n
       → Tells dig role tag n events records → Tells dig role tag n more records
-  tells-aside Wallet tag n events more records log same starts tells =
-      wallet-aside dig tag n events records tells more log same starts
-  tells-aside Watcher tag n events more records log same starts tells =
-      watcher-aside dig tag n events more records tells same
-  tells-aside Operator tag n events more records log same starts tells = tt
+  tells-aside role tag n events more records log same starts tells =
+      grind (arith, common_steps, wallet-aside, watcher-aside) steps 20000
 
   tells-joined : (role : Role) (tag : List ℕ) (n : ℕ) (events more : List Event) (records : WalletRecords)
       (call : RootCall) → log_of more ≡ call ∷ log_of events → said more n ≡ said events n
@@ -168,11 +166,8 @@ module _ {D : Type 0} (told : D → Option History) (plan : D → Option FaultPl
   act-aside : (m n : ℕ) (now : Option WalletRecords) (act : Act) (events : List Event) → IsQuietAct m act → m ≢ n
       → IsAside n events (act_events m now act events)
   unfolding log_of
-  act-aside m n now (Begins (Some me)) events quiet other = record {
-    log = refl;
-    same = said-other _ events n (ne_eqb m n other);
-    starts = left-plain _ events n refl;
-  }
+  act-aside m n now (Begins (Some me)) events quiet other =
+      grind (arith, common_steps, said-other, ne_eqb, left-plain) steps 20000
   act-aside m n now (Begins None) events quiet other = record { log = refl; same = refl; starts = refl }
   act-aside m n now (Runs visit) events quiet other = record {
     log = run-same log_of m (λ event others is. quiet_step m event others is) now visit events quiet;
@@ -194,12 +189,7 @@ module _ {D : Type 0} (told : D → Option History) (plan : D → Option FaultPl
   -- ---- the first call of a node
 
   one-first : (call first : TheCall) (later : List TheCall) → call ∷ [] ≡ later ++ first ∷ [] → first ≡ call
-  one-first call first [] are = sym (cc are)
-  one-first call first (one ∷ later) are = absurd (none later (cc are))
-    where
-      none : (calls : List TheCall) → [] ≡ calls ++ first ∷ [] → ⊥
-      none [] wrong = cc wrong
-      none (other ∷ calls) wrong = cc wrong
+  one-first call first later are = grind (arith, common_steps) steps 20000
 
   finds-alone : (o : Option WalletIdentity) (asked : Asked) (before : WalletRecords → Type 0) (r : WalletRecords)
       → FindsWith (begun_by o) asked before r → BegunAs asked r
@@ -258,10 +248,7 @@ module _ {D : Type 0} (told : D → Option History) (plan : D → Option FaultPl
 
   some-is : (m : ℕ) (one other : WalletRecords) (rest : Option WalletRecords)
       → (if m == m then Some one else rest) ≡ Some other → other ≡ one
-  some-is m one other rest is =
-      (let same : Some one ≡ Some other =
-      ap (λ (b : Bool). if b then Some one else rest) (sym (eq-eqb m m refl)) ∙ is in
-      cc same)
+  some-is m one other rest is = grind (arith, common_steps, eq-eqb) steps 20000
 
   own-is : (m : ℕ) (one : WalletRecords) (rest : Option WalletRecords) → (if m == m then Some one else rest) ≡ Some one
   own-is m one rest = ap (λ (b : Bool). if b then Some one else rest) (eq-eqb m m refl)
@@ -354,10 +341,7 @@ module _ {D : Type 0} (told : D → Option History) (plan : D → Option FaultPl
       (life-of role m previous calls later first (cc are) begins life.2) life).life
 
   found-other : (m n : ℕ) (act : Act) (found : Found) → n ≢ m → found_by m act found n ≡ found n
-  found-other m n (Begins who) found other = refl
-  found-other m n (Runs visit) found other =
-      ap (λ (b : Bool). if b then Some visit.found else found n) (ne_eqb n m other)
-  found-other m n Rests found other = refl
+  found-other m n act found other = grind (arith, common_steps, ne_eqb) steps 20000
 
   -- what is found before a call of node m
   own-fit : (m : ℕ) (call : TheCall) (calls : List TheCall) (found : Found) (r : WalletRecords)

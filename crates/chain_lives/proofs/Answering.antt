@@ -1,9 +1,10 @@
 -- Where the answered lines of a run leave its node: where the commands among them do, one after another, behind the log
 -- that it was handed.
-use Rattle.std.proofs.Common.{◌≡◌, ℕ, Bool, true, false, if◌then◌else◌, List, [], ◌∷◌, Option, Some, None, is_some, Result, Ok, Err, refl, sym, ap, ◌∙◌, subst, bytes_eq}
+use Rattle.std.proofs.Common.{◌≡◌, ℕ, Bool, true, false, if◌then◌else◌, List, [], ◌∷◌, Option, Some, None, is_some, Result, Ok, Err, refl, sym, ap, ◌∙◌, subst, bytes_eq, arith}
 use Rattle.std.specs.Prelude.{codes, option_map}
-use Rattle.std.specs.List.{filter_map, cons_option}
+use Rattle.std.specs.List.{filter_map}
 use Rattle.std.proofs.lemmas.Slice.Eq.{bytes_eq-Decides}
+use Rattle.std.proofs.lemmas.Grind.{common_steps}
 use Rattle.plasma_tx.specs.declared.call.RootCall.{RootCall}
 use Rattle.plasma_tx.specs.Chain.{Chain, with_log}
 use Rattle.line_forms.specs.Forms.{value_in}
@@ -29,13 +30,7 @@ unfolding chain_in value_in
 end-is-none = refl
 
 first-goes-on : (line : List ℕ) (chain : Chain) → chain_in line ≡ Some chain → is_end_of_log line ≡ false
-first-goes-on line chain is = by (bytes_eq line (codes "--")) refl
-  where
-    by : (b : Bool) → bytes_eq line (codes "--") ≡ b → b ≡ false
-    by false same = refl
-    by true same =
-        let one : line ≡ codes "--" = (bytes_eq-Decides line (codes "--")).0 same in
-        absurd (cc (is, ap chain_in one, end-is-none))
+first-goes-on line chain is = grind (arith, common_steps, bytes_eq-Decides, end-is-none) steps 20000
 
 module _ {L : Type 0} (tag : List ℕ) (command_in : List ℕ → Option L)
     (answers : List RootCall → NodeAt NotesAt → L → Result (NodeAt NotesAt × List ℕ) (List ℕ)) where
@@ -158,34 +153,13 @@ module _ {L : Type 0} (tag : List ℕ) (command_in : List ℕ → Option L)
   behind-none false = refl
 
   pub came-none : (session : State) → Goes session → Behind session [] session
-  came-none session goes = record {
-    node = goes.node;
-    kept = ap (left_with (calls_of session.log) (kept_at session.node)) (sym (behind-none session.is_over));
-    same = λ over. (refl, over);
-    none = λ over. behind-none session.is_over;
-    logged = goes.logged;
-    tagged = goes.tagged;
-  }
+  came-none session goes = grind (arith, common_steps, behind-none) steps 20000
 
   -- with a line of the log
   came-logged : (session next run : State) (line : List ℕ) (texts : List (List ℕ)) → session.is_over ≡ false
       → next.node ≡ session.node → texts_behind next.is_over texts ≡ behind_log (line ∷ texts)
       → Behind next texts run → Behind session (line ∷ texts) run
-  came-logged session next run line texts over node same came =
-      let texts_are : texts_behind next.is_over texts ≡ texts_behind session.is_over (line ∷ texts) =
-      same ∙ ap (λ (b : Bool). texts_behind b (line ∷ texts)) (sym over) in
-      record {
-        node = came.node;
-        kept =
-            came.kept
-            ∙ ap (λ (at : NodeAt NotesAt).
-            left_with (calls_of run.log) (kept_at at) (texts_behind next.is_over texts)) node
-            ∙ ap (left_with (calls_of run.log) (kept_at session.node)) texts_are;
-        same = λ wrong. absurd (cc (over, wrong));
-        none = λ off. sym texts_are ∙ came.none off;
-        logged = came.logged;
-        tagged = came.tagged;
-      }
+  came-logged session next run line texts over node same came = grind (arith, common_steps) steps 20000
 
   came-first : (session next run : State) (line : List ℕ) (texts : List (List ℕ)) → session.is_over ≡ false
       → next.node ≡ session.node → next.is_over ≡ false → is_end_of_log line ≡ false → Behind next texts run
@@ -198,10 +172,7 @@ module _ {L : Type 0} (tag : List ℕ) (command_in : List ℕ → Option L)
   came-last : (session next run : State) (line : List ℕ) (texts : List (List ℕ)) → session.is_over ≡ false
       → next.node ≡ session.node → next.is_over ≡ true → is_end_of_log line ≡ true → Behind next texts run
       → Behind session (line ∷ texts) run
-  came-last session next run line texts over node on ends came =
-      came-logged session next run line texts over node
-      (ap (λ (b : Bool). texts_behind b texts) on
-      ∙ ap (λ (b : Bool). if b then texts else behind_log texts) (sym ends)) came
+  came-last session next run line texts over node on ends came = grind (arith, common_steps, came-logged) steps 20000
 
   -- with a command
   came-command : (session next run : State) (line : List ℕ) (texts : List (List ℕ)) (command : L)
@@ -209,34 +180,7 @@ module _ {L : Type 0} (tag : List ℕ) (command_in : List ℕ → Option L)
       → kept_at next.node ≡ (does (calls_of session.log) (kept_at session.node) command).left
       → Behind next texts run → Behind session (line ∷ texts) run
   came-command session next run line texts command over on log spells kept came =
-      let same_log : run.log ≡ session.log = (came.same on).0 ∙ log in
-      let here : left_with (calls_of run.log) (kept_at next.node) (texts_behind next.is_over texts)
-      ≡ left_with (calls_of session.log) (kept_at next.node) texts =
-      ap (λ (b : Bool). left_with (calls_of run.log) (kept_at next.node) (texts_behind b texts)) on
-      ∙ ap (λ (l : Option Chain). left_with (calls_of l) (kept_at next.node) texts) same_log in
-      let does_one : left_with (calls_of session.log) (kept_at next.node) texts
-      ≡ left_by (kept_at session.node)
-      (deeds_of (does (calls_of session.log)) (kept_at session.node) (command ∷ filter_map command_in texts)) =
-      ap (λ (r : WalletRecords). left_with (calls_of session.log) r texts) kept in
-      let spelled : left_by (kept_at session.node)
-      (deeds_of (does (calls_of session.log)) (kept_at session.node) (command ∷ filter_map command_in texts))
-      ≡ left_with (calls_of session.log) (kept_at session.node) (line ∷ texts) =
-      ap (λ (o : Option L). left_by (kept_at session.node)
-      (deeds_of (does (calls_of session.log)) (kept_at session.node) (cons_option o (filter_map command_in texts))))
-      (sym spells) in
-      let there : left_with (calls_of session.log) (kept_at session.node) (line ∷ texts)
-      ≡ left_with (calls_of run.log) (kept_at session.node) (texts_behind session.is_over (line ∷ texts)) =
-      ap (λ (l : Option Chain). left_with (calls_of l) (kept_at session.node) (line ∷ texts)) (sym same_log)
-      ∙ ap (λ (b : Bool). left_with (calls_of run.log) (kept_at session.node) (texts_behind b (line ∷ texts)))
-      (sym over) in
-      record {
-        node = came.node;
-        kept = came.kept ∙ here ∙ does_one ∙ spelled ∙ there;
-        same = λ on_here. (same_log, (came.same on).1);
-        none = λ off. absurd (let known = (came.same on).1 in cc (off, known));
-        logged = came.logged;
-        tagged = came.tagged;
-      }
+      grind (arith, common_steps) steps 20000
 
   -- the session with a line that was answered goes on, and what comes behind it comes behind the line
   pub record GoesOn (session next : State) (line : List ℕ) : Type 0 where
@@ -244,11 +188,7 @@ module _ {L : Type 0} (tag : List ℕ) (command_in : List ℕ → Option L)
     pub behind : (texts : List (List ℕ)) (run : State) → Behind next texts run → Behind session (line ∷ texts) run
 
   not-over : (session : State) → Goes session → session.log ≡ None → session.is_over ≡ false
-  not-over session goes none = by session.is_over refl
-    where
-      by : (over : Bool) → session.is_over ≡ over → over ≡ false
-      by false is = refl
-      by true is = absurd (let some = goes.logged is in cc (none, some))
+  not-over session goes none = grind (arith, common_steps) steps 20000
 
   pub goes-by : (session next : State) (line : List ℕ) → Goes session → Came tag command_in answers session line next
       → GoesOn session next line
@@ -264,29 +204,8 @@ module _ {L : Type 0} (tag : List ℕ) (command_in : List ℕ → Option L)
             came-first session (record session { log = Some chain }) run line texts over refl over
             (first-goes-on line chain found) came;
       })
-  goes-by session next line goes (Last chain there over ends is) =
-      subst (λ (s : State). GoesOn session s line) (sym is) (record {
-        goes = record { node = goes.node; logged = λ on. ap is_some there; tagged = goes.tagged };
-        behind = λ texts run came.
-            came-last session (record session { is_over = true }) run line texts over refl refl ends came;
-      })
+  goes-by session next line goes (Last chain there over ends is) = grind (arith, common_steps, came-last) steps 150000
   goes-by session next line goes (More chain longer there over ends tag_is is) =
-      subst (λ (s : State). GoesOn session s line) (sym is) (record {
-        goes = record {
-          node = goes.node;
-          logged = λ on. refl;
-          tagged = λ other same.
-              ap (λ (c : Chain). c.tag) (sym (some-same longer other same)) ∙ tag_is ∙ goes.tagged chain there;
-        };
-        behind = λ texts run came.
-            came-first session (record session { log = Some longer }) run line texts over refl over ends came;
-      })
+      grind (arith, common_steps, some-same, came-first) steps 150000
   goes-by session next line goes (Command chain command left text there over spells did is) =
-      let done = step chain.log session.node command left text goes.node did in
-      subst (λ (s : State). GoesOn session s line) (sym is) (record {
-        goes = record { node = done.0; logged = goes.logged; tagged = goes.tagged };
-        behind = λ texts run came.
-            came-command session (record session { node = left }) run line texts command over over refl spells
-            (done.1
-            ∙ ap (λ (l : Option Chain). (does (calls_of l) (kept_at session.node) command).left) (sym there)) came;
-      })
+      grind (arith, common_steps, came-command) steps 150000

@@ -1,10 +1,10 @@
 -- What the events of a node's run leave of what was said before them.
-use Rattle.std.proofs.Common.{◌≡◌, ℕ, ◌-◌, List, [], ◌∷◌, length, Option, refl, ◌∙◌, subst}
+use Rattle.std.proofs.Common.{◌≡◌, ℕ, ◌-◌, List, [], ◌∷◌, length, Option, refl, ◌∙◌, arith}
+use Rattle.std.proofs.lemmas.Grind.{common_steps}
 use Rattle.node_rules.specs.Wallet.{WalletRecords}
 use Rattle.world_rules.specs.Events.{Event}
-use Rattle.world_rules.specs.Steps.{without_offers}
 use Rattle.chain_lives.specs.Steps.{Deed, Visit, event_where, answered_events, run_events}
-use Rattle.chain_lives.proofs.Log.{IsQuiet, AreQuiet, MayBeQuiet, IsQuietVisit, where_quiet, without_quiet}
+use Rattle.chain_lives.proofs.Log.{IsQuiet, AreQuiet, IsQuietVisit, where_quiet, without_quiet}
 use Rattle.chain_lives.proofs.Entered.{late_same}
 
 -- what each event of a node leaves, all events of its run do
@@ -20,8 +20,4 @@ module _ {A : Type 0} (of : List Event → A) (n : ℕ)
 
   pub run-same : (found : Option WalletRecords) (visit : Visit) (events : List Event) → IsQuietVisit n visit
       → of (run_events n found visit events) ≡ of events
-  run-same found visit events quiet =
-      late_same of n found visit (answered_events n visit.written visit.deeds events)
-      (λ deed is. each (without_offers n deed.event) (answered_events n visit.written visit.deeds events)
-      (without_quiet n deed.event (subst (MayBeQuiet n) is quiet.1)))
-      ∙ answered-same visit.written visit.deeds events quiet.0
+  run-same found visit events quiet = grind (arith, common_steps, late_same, without_quiet, answered-same) steps 20000

@@ -1,8 +1,9 @@
 -- Where a wallet is begun, it did nothing before: only the first call of a node's life says `made`.
-use Rattle.std.proofs.Common.{◌≡◌, ◌≢◌, ℕ, ◌-◌, ◌==◌, ◌⊎◌, Bool, true, false, if◌then◌else◌, List, [], ◌∷◌, ◌++◌, length, Option, Some, None, refl, sym, ap, ◌∙◌, subst, inl, inr}
+use Rattle.std.proofs.Common.{◌≡◌, ◌≢◌, ℕ, ◌-◌, ◌⊎◌, false, List, [], ◌∷◌, ◌++◌, length, Option, Some, None, refl, sym, ap, ◌∙◌, subst, inl, inr, arith}
 use Rattle.std.specs.List.{All, list_any}
 use Rattle.std.proofs.lemmas.Bool.{eq-eqb, ne_eqb, cases_eq}
 use Rattle.std.proofs.lemmas.List.Elements.{All-head, All-tail}
+use Rattle.std.proofs.lemmas.Grind.{common_steps}
 use Rattle.crash_disk.specs.Disk.{History, FaultPlan}
 use Rattle.plasma_tx.specs.declared.owner.Owner.{Owner}
 use Rattle.plasma_tx.specs.Shown.{Rules}
@@ -17,13 +18,12 @@ use Rattle.node_lives.specs.Lives.{IsLife}
 use Rattle.node_lives.specs.Laws.{FindsTheNode}
 use Rattle.node_lives.proofs.Life.{begun_nodes_stay}
 use Rattle.world_rules.specs.Events.{Event, wallet_owner, is_command_of}
-use Rattle.world_rules.specs.Steps.{without_offers}
 use Rattle.world_laws.specs.Legal.{starts_by, deposits_by}
-use Rattle.chain_lives.specs.Steps.{Deed, Visit, Act, Begins, Runs, Rests, Enters, Refuses, Does, Found, event_where, answered_events, act_events, found_by, none_found, events_behind}
+use Rattle.chain_lives.specs.Steps.{Deed, Visit, Act, Begins, Enters, Refuses, Does, Found, event_where, answered_events, act_events, found_by, none_found, events_behind}
 use Rattle.chain_lives.specs.Acts.{ran_or, act_by, act_of, acts_of}
 use Rattle.chain_lives.specs.Chains.{Steps, calls_by, KeepsTo, IsFresh, MayDo}
 use Rattle.chain_lives.specs.Begun.{BeginningsAreLegal}
-use Rattle.chain_lives.proofs.Log.{IsQuiet, AreQuiet, IsQuietAct, where_quiet, without_quiet, MayBeQuiet, by_call, behind}
+use Rattle.chain_lives.proofs.Log.{IsQuiet, AreQuiet, IsQuietAct, where_quiet, without_quiet, by_call, behind}
 use Rattle.chain_lives.proofs.Entered.{late_same, owner_ran, owner_behind}
 
 -- ---- commands of others
@@ -42,22 +42,13 @@ other_answered w n written (deed ∷ deeds) events quiet other =
 
 other_act : (w n : ℕ) (found : Option WalletRecords) (act : Act) (events : List Event) → IsQuietAct n act → n ≢ w
     → list_any (is_command_of w) (act_events n found act events) ≡ list_any (is_command_of w) events
-other_act w n found (Begins (Some me)) events quiet other = refl
-other_act w n found (Begins None) events quiet other = refl
-other_act w n found (Runs visit) events quiet other =
-    late_same (list_any (is_command_of w)) n found visit (answered_events n visit.written visit.deeds events)
-    (λ deed is. other_more w n (without_offers n deed.event) (answered_events n visit.written visit.deeds events)
-    (without_quiet n deed.event (subst (MayBeQuiet n) is quiet.1)) other)
-    ∙ other_answered w n visit.written visit.deeds events quiet.0 other
-other_act w n found Rests events quiet other = refl
+other_act w n found act events quiet other =
+    grind (arith, common_steps, late_same, other_more, without_quiet, other_answered) steps 20000
 
 other_owner : (w n : ℕ) (found : Option WalletRecords) (act : Act) (events : List Event) → IsQuietAct n act → n ≢ w
     → wallet_owner (act_events n found act events) w ≡ wallet_owner events w
 unfolding wallet_owner
-other_owner w n found (Begins (Some me)) events quiet other = simp (ne_eqb n w other) refl
-other_owner w n found (Begins None) events quiet other = refl
-other_owner w n found (Runs visit) events quiet other = owner_ran w n found visit events quiet
-other_owner w n found Rests events quiet other = refl
+other_owner w n found act events quiet other = grind (arith, common_steps, ne_eqb, owner_ran) steps 20000
 
 -- ---- one element of a list with another last
 
@@ -114,15 +105,7 @@ module _ {D : Type 0} (told : D → Option History) (plan : D → Option FaultPl
   calls_at [] earlier n call = simp (eq-eqb n n refl) refl
   calls_at (Enters entry ∷ later) earlier n call = calls_at later earlier n call
   calls_at (Refuses entry ∷ later) earlier n call = calls_at later earlier n call
-  calls_at (Does m one ∷ later) earlier n call =
-      by (m == n) (calls_by told plan faults dig rules n (later ++ Does n call ∷ earlier))
-      (calls_by told plan faults dig rules n later) (call ∷ calls_by told plan faults dig rules n earlier)
-      (calls_at later earlier n call)
-    where
-      by : (b : Bool) (xs ys zs : Calls) → xs ≡ ys ++ zs
-          → (if b then one ∷ xs else xs) ≡ (if b then one ∷ ys else ys) ++ zs
-      by true xs ys zs same = ap (λ calls. one ∷ calls) same
-      by false xs ys zs same = same
+  calls_at (Does m one ∷ later) earlier n call = grind (arith, common_steps, calls_at later earlier n call) steps 20000
 
   keeps_at : (later earlier : Steps told plan faults dig rules) (n : ℕ) (call : Call told plan faults dig)
       → KeepsTo told plan faults dig rules (later ++ Does n call ∷ earlier)
@@ -148,25 +131,17 @@ module _ {D : Type 0} (told : D → Option History) (plan : D → Option FaultPl
   nothing w found (Refuses call ∷ steps) none =
       let so = nothing w found steps none in record { owner = so.owner; commands = so.commands }
   nothing w found (Does n call ∷ steps) none =
-      by (cases_eq n w) (nothing w (found_by n (act_of told plan faults dig n call) found) steps)
-    where
-      by : (n ≡ w) ⊎ (n ≢ w)
-          → (calls_by told plan faults dig rules w steps ≡ []
-          → DidNothing (events_behind (found_by n (act_of told plan faults dig n call) found)
-          (acts_of told plan faults dig steps)) w)
-          → DidNothing (events_behind found (acts_of told plan faults dig (Does n call ∷ steps))) w
-      by (inl is) before =
-          let wrong : call ∷ calls_by told plan faults dig rules w steps ≡ [] = simp (eq-eqb n w is) at none in
-          absurd (cc wrong)
-      by (inr other) before =
-          let so = before (simp (ne_eqb n w other) at none) in
-          let act = act_of told plan faults dig n call in
-          let quiet = by_call told plan faults dig n call.asked call.old call.new call.outside call.status call.did in
-          let events = events_behind (found_by n act found) (acts_of told plan faults dig steps) in
-          record {
-            owner = other_owner w n (found n) act events quiet other ∙ so.owner;
-            commands = other_act w n (found n) act events quiet other ∙ so.commands;
-          }
+      grind (
+        arith,
+        common_steps,
+        nothing w (found_by n (act_of told plan faults dig n call) found) steps,
+        cases_eq,
+        eq-eqb,
+        ne_eqb,
+        by_call,
+        other_owner,
+        other_act,
+      ) steps 20000
 
   pub beginnings_are_legal : BeginningsAreLegal told plan faults dig rules
   beginnings_are_legal later earlier n call me found chain begins =

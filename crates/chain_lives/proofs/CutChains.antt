@@ -1,8 +1,9 @@
 -- A chain with cuts is a chain of the calls as which they are taken, and a chain whose calls all ended is one with
 -- cuts.
-use Rattle.std.proofs.Common.{◌≡◌, ℕ, ◌==◌, Bool, true, false, if◌then◌else◌, List, [], ◌∷◌, ◌++◌, Option, refl, sym, ap, ◌∙◌, subst}
+use Rattle.std.proofs.Common.{◌≡◌, ℕ, List, [], ◌∷◌, ◌++◌, Option, refl, sym, ap, ◌∙◌, subst, arith}
 use Rattle.std.specs.Prelude.{map}
 use Rattle.std.proofs.lemmas.List.{map-append}
+use Rattle.std.proofs.lemmas.Grind.{common_steps}
 use Rattle.crash_disk.specs.Disk.{History, FaultPlan}
 use Rattle.plasma_tx.specs.Shown.{Rules}
 use Rattle.node_lives.specs.Disks.{Pair}
@@ -25,16 +26,7 @@ module _ {D : Type 0} (told : D → Option History) (plan : D → Option FaultPl
   calls-taken n [] = refl
   calls-taken n (Enters call ∷ steps) = calls-taken n steps
   calls-taken n (Refuses call ∷ steps) = calls-taken n steps
-  calls-taken n (Does m step ∷ steps) =
-      by (m == n) (calls_by told plan faults dig rules n (taken told plan faults dig rules steps))
-      (steps_by told plan faults dig rules n steps) (calls-taken n steps)
-    where
-      by : (b : Bool) (calls : List (Call told plan faults dig)) (own : List (LifeStep told plan faults dig))
-          → calls ≡ calls_in told plan faults dig own
-          → (if b then call_in told plan faults dig step ∷ calls else calls)
-          ≡ calls_in told plan faults dig (if b then step ∷ own else own)
-      by true calls own same = ap (λ calls. call_in told plan faults dig step ∷ calls) same
-      by false calls own same = same
+  calls-taken n (Does m step ∷ steps) = grind (arith, common_steps, calls-taken n steps) steps 20000
 
   node-taken : (steps : List (LifeStep told plan faults dig)) → IsNodeWithCuts told plan faults dig rules steps
       → IsNode told plan faults dig rules (calls_in told plan faults dig steps)
@@ -86,15 +78,7 @@ module _ {D : Type 0} (told : D → Option History) (plan : D → Option FaultPl
   steps-ended n [] = refl
   steps-ended n (Enters call ∷ steps) = steps-ended n steps
   steps-ended n (Refuses call ∷ steps) = steps-ended n steps
-  steps-ended n (Does m call ∷ steps) =
-      by (m == n) (steps_by told plan faults dig rules n (ended told plan faults dig rules steps))
-      (calls_by told plan faults dig rules n steps) (steps-ended n steps)
-    where
-      by : (b : Bool) (own : List (LifeStep told plan faults dig)) (calls : List (Call told plan faults dig))
-          → own ≡ map Ended calls
-          → (if b then Ended call ∷ own else own) ≡ map Ended (if b then call ∷ calls else calls)
-      by true own calls same = ap (λ more. Ended call ∷ more) same
-      by false own calls same = same
+  steps-ended n (Does m call ∷ steps) = grind (arith, common_steps, steps-ended n steps) steps 20000
 
   lie-ended : (calls : List (Call told plan faults dig)) (pair : Pair D) → LieBehind told plan faults dig calls pair
       → LieBehindSteps told plan faults dig (map Ended calls) pair

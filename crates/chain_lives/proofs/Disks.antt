@@ -1,6 +1,7 @@
 -- What the images of a node's disks keep that a crash may leave, and no more: what is asked of their records holds from
 -- one call to the next.
-use Rattle.std.proofs.Common.{◌≡◌, ℕ, true, List, [], Option, Some, Ok, sym, ap, ◌∙◌, subst, inl, inr}
+use Rattle.std.proofs.Common.{◌≡◌, ℕ, true, List, [], Option, Some, Ok, sym, ap, ◌∙◌, subst, inl, inr, arith}
+use Rattle.std.proofs.lemmas.Grind.{common_steps}
 use Rattle.crash_disk.specs.Disk.{History, content, MayLeave, FaultPlan}
 use Rattle.crash_disk.specs.Calls.{WhereTold}
 use Rattle.crash_disk.proofs.Left.{content_may_be_left}
@@ -65,12 +66,7 @@ module _ {D : Type 0} (told : D → Option History) where
 
   keep-weaker : (P R : WalletRecords → Type 0) (notes leaves : List ℕ) → ((r : WalletRecords) → P r → R r)
       → Keep P notes leaves → Keep R notes leaves
-  keep-weaker P R notes leaves more keep = record {
-    kept = keep.kept;
-    keeps_notes = keep.keeps_notes;
-    keeps_leaves = keep.keeps_leaves;
-    is = more keep.kept keep.is;
-  }
+  keep-weaker P R notes leaves more keep = grind (arith, common_steps) steps 20000
 
   notes-weaker : (P R : WalletRecords → Type 0) (image : List ℕ) → ((r : WalletRecords) → P r → R r)
       → KeepNotes P image → KeepNotes R image

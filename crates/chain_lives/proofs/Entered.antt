@@ -1,18 +1,18 @@
 -- A call that may be entered is legal: what a node's next run finds changes neither the log, nor who the wallets are,
 -- nor what their leaves offered.
-use Rattle.std.proofs.Common.{◌≡◌, ℕ, ◌-◌, ◌==◌, Bool, true, false, if◌then◌else◌, List, [], ◌∷◌, length, Option, Some, None, refl, sym, ap, ◌∙◌, subst}
-use Rattle.std.specs.Option.{option_map_or}
+use Rattle.std.proofs.Common.{◌≡◌, ℕ, ◌-◌, ◌==◌, if◌then◌else◌, List, [], ◌∷◌, length, Option, Some, None, refl, sym, ap, ◌∙◌, subst, arith}
 use Rattle.std.specs.List.{Contains}
+use Rattle.std.proofs.lemmas.Grind.{common_steps}
 use Rattle.crash_disk.specs.Disk.{History, FaultPlan}
 use Rattle.plasma_tx.specs.declared.call.RootCall.{RootCall}
 use Rattle.plasma_tx.specs.Shown.{Rules, tests_by}
 use Rattle.plasma_tx.specs.Table.{answer_to, is_accepted}
 use Rattle.node_rules.specs.Wallet.{WalletRecords}
 use Rattle.node_lives.specs.Calls.{Call}
-use Rattle.world_rules.specs.Events.{Event, Declares, Watches, Leaves, Seals, wallet_owner}
+use Rattle.world_rules.specs.Events.{Event, Leaves, wallet_owner}
 use Rattle.world_rules.specs.Steps.{without_offers}
 use Rattle.world_laws.specs.Legal.{left_by}
-use Rattle.chain_lives.specs.Steps.{Deed, Visit, Act, Begins, Runs, Rests, Step, Enters, Refuses, Does, Found, left_by as records_by, event_where, answered_events, late_events, act_events, found_by, none_found, events_behind, is_found}
+use Rattle.chain_lives.specs.Steps.{Deed, Visit, Act, Begins, Runs, Rests, Step, Enters, Refuses, Does, Found, event_where, answered_events, late_events, act_events, found_by, none_found, events_behind}
 use Rattle.chain_lives.specs.Acts.{act_of, acts_of}
 use Rattle.chain_lives.specs.Entered.{EntriesAreLegal}
 use Rattle.chain_lives.proofs.Log.{IsQuiet, AreQuiet, MayBeQuiet, IsQuietVisit, IsQuietAct, where_quiet, without_quiet, by_call, behind}
@@ -28,10 +28,7 @@ left_more w event xs ys same = same
 left_without : (w n : ℕ) (event : Event) (events : List Event)
     → left_by (without_offers n event ∷ events) w ≡ left_by events w
 unfolding left_by
-left_without w n (Watches m calls) events = refl
-left_without w n (Leaves m call) events = refl
-left_without w n (Seals call) events = refl
-left_without w n event events = refl
+left_without w n event events = grind (arith, common_steps) steps 20000
 
 left_answered : (w n written : ℕ) (deeds : List Deed) (xs ys : List Event) → left_by xs w ≡ left_by ys w
     → left_by (answered_events n written deeds xs) w ≡ left_by (answered_events n written deeds ys) w
@@ -46,15 +43,7 @@ pub late_same : {A : Type 0} (of : List Event → A) (n : ℕ) (found : Option W
     (events : List Event)
     → ((deed : Deed) → visit.next ≡ Some deed → of (without_offers n deed.event ∷ events) ≡ of events)
     → of (late_events n found visit events) ≡ of events
-late_same of n found visit events each =
-    by (is_found (records_by visit.found visit.deeds) found) visit.next refl
-  where
-    by : (b : Bool) (next : Option Deed) → visit.next ≡ next
-        → of (if b then option_map_or (λ (deed : Deed). without_offers n deed.event ∷ events) next events else events)
-        ≡ of events
-    by false next is = refl
-    by true None is = refl
-    by true (Some deed) is = each deed is
+late_same of n found visit events each = grind (arith, common_steps) steps 20000
 
 left_act : (w n : ℕ) (f g : Option WalletRecords) (act : Act) (xs ys : List Event) → left_by xs w ≡ left_by ys w
     → left_by (act_events n f act xs) w ≡ left_by (act_events n g act ys) w
@@ -84,13 +73,7 @@ left_behind w f g (Does n act ∷ steps) =
 pub owner_more : (w n : ℕ) (event : Event) (events : List Event) → IsQuiet n event
     → wallet_owner (event ∷ events) w ≡ wallet_owner events w
 unfolding wallet_owner
-owner_more w n (Declares v me) events quiet = by (v == w) (quiet.owners w)
-  where
-    by : (b : Bool) → (if b then Some me else None) ≡ None
-        → (if b then Some me else wallet_owner events w) ≡ wallet_owner events w
-    by true none = absurd (cc none)
-    by false none = refl
-owner_more w n event events quiet = refl
+owner_more w n event events quiet = grind (arith, common_steps) steps 20000
 
 pub owner_answered : (w n written : ℕ) (deeds : List Deed) (events : List Event) → AreQuiet n deeds
     → wallet_owner (answered_events n written deeds events) w ≡ wallet_owner events w
@@ -112,11 +95,7 @@ pub owner_act : (w n : ℕ) (f g : Option WalletRecords) (act : Act) (xs ys : Li
     → wallet_owner xs w ≡ wallet_owner ys w
     → wallet_owner (act_events n f act xs) w ≡ wallet_owner (act_events n g act ys) w
 unfolding wallet_owner
-owner_act w n f g (Begins (Some me)) xs ys quiet same = ap (λ owner. if n == w then Some me else owner) same
-owner_act w n f g (Begins None) xs ys quiet same = same
-owner_act w n f g (Runs visit) xs ys quiet same =
-    owner_ran w n f visit xs quiet ∙ same ∙ sym (owner_ran w n g visit ys quiet)
-owner_act w n f g Rests xs ys quiet same = same
+owner_act w n f g act xs ys quiet same = grind (arith, common_steps, owner_ran) steps 20000
 
 -- ---- entries
 

@@ -1,5 +1,6 @@
 -- The events of a chain with its nodes tell each call that was entered.
-use Rattle.std.proofs.Common.{◌≡◌, ℕ, List, [], ◌∷◌, Option, Some, None, refl, ap, ◌∙◌}
+use Rattle.std.proofs.Common.{◌≡◌, ℕ, List, [], ◌∷◌, Option, Some, None, refl, ap, ◌∙◌, arith}
+use Rattle.std.proofs.lemmas.Grind.{common_steps}
 use Rattle.crash_disk.specs.Disk.{History, FaultPlan}
 use Rattle.plasma_tx.specs.Shown.{Rules}
 use Rattle.node_rules.specs.Wallet.{WalletRecords}
@@ -15,9 +16,7 @@ use Rattle.chain_lives.proofs.Asides.{run-same}
 command-enters : (n : ℕ) (event : Event) (events : List Event) → IsQuiet n event
     → entries_of (event ∷ events) ≡ entries_of events
 unfolding entries_of
-command-enters n (Joins call) events quiet = absurd (cc quiet.own)
-command-enters n (Bounces call) events quiet = absurd (cc quiet.own)
-command-enters n event events quiet = refl
+command-enters n event events quiet = grind (arith, common_steps) steps 20000
 
 act-enters : (n : ℕ) (found : Option WalletRecords) (act : Act) (events : List Event) → IsQuietAct n act
     → entries_of (act_events n found act events) ≡ entries_of events

@@ -1,12 +1,12 @@
 -- Commands, one after another, of a node whose records are what events say: each is a legal event, and behind all of
 -- them the records are so still.
-use Rattle.std.proofs.Common.{◌≡◌, ℕ, ◌-◌, Bool, true, false, if◌then◌else◌, List, [], ◌∷◌, length, ◌∙◌}
-use Rattle.std.specs.Prelude.{nat_le}
+use Rattle.std.proofs.Common.{◌≡◌, ℕ, ◌-◌, List, [], ◌∷◌, length, ◌∙◌, arith}
 use Rattle.std.specs.List.{AllByRecursion}
+use Rattle.std.proofs.lemmas.Grind.{common_steps}
 use Rattle.plasma_tx.specs.declared.call.RootCall.{RootCall}
 use Rattle.plasma_tx.specs.Shown.{Rules, tests_by}
 use Rattle.node_rules.specs.Wallet.{WalletRecords}
-use Rattle.world_rules.specs.Events.{Event, Watches, Leaves, Seals, log_of}
+use Rattle.world_rules.specs.Events.{Event, log_of}
 use Rattle.world_rules.specs.Steps.{without_offers}
 use Rattle.world_laws.specs.Legal.{IsLegalEvent, IsLegal}
 use Rattle.chain_lives.specs.Steps.{Deed, left_by, event_where, answered_events}
@@ -24,28 +24,16 @@ module _ (dig : List ℕ → List ℕ) (rules : Rules) (n : ℕ) where
   -- without offers it is legal too
   pub legal-without : (events : List Event) (event : Event) → IsLegalEvent (tests_by dig) rules events event
       → IsLegalEvent (tests_by dig) rules events (without_offers n event)
-  legal-without events (Watches m calls) legal = tt
-  legal-without events (Leaves m call) legal = tt
-  legal-without events (Seals call) legal = tt
-  legal-without events event legal = legal
+  legal-without events event legal = grind (arith, common_steps) steps 20000
 
   module _ (Tells : List Event → WalletRecords → Type 0) (events : List Event) (deed : Deed)
       (follows : Follows dig rules n Tells events deed) where
     -- wherever its answer was written
     pub where-legal : (written : ℕ) → IsLegalEvent (tests_by dig) rules events (event_where n written deed)
-    where-legal written = by (nat_le (length deed.text) written)
-      where
-        by : (b : Bool)
-            → IsLegalEvent (tests_by dig) rules events (if b then deed.event else without_offers n deed.event)
-        by true = follows.legal
-        by false = legal-without events deed.event follows.legal
+    where-legal written = grind (arith, common_steps, legal-without) steps 20000
 
     pub where-tells : (written : ℕ) → Tells (event_where n written deed ∷ events) deed.left
-    where-tells written = by (nat_le (length deed.text) written)
-      where
-        by : (b : Bool) → Tells ((if b then deed.event else without_offers n deed.event) ∷ events) deed.left
-        by true = follows.tells
-        by false = follows.silent
+    where-tells written = grind (arith, common_steps) steps 20000
 
   -- what holds behind events of records
   pub record Behind (Tells : List Event → WalletRecords → Type 0) (log : List RootCall) (events : List Event)

@@ -1,14 +1,12 @@
 -- The events of a chain with its nodes accept the chain's calls and no others.
-use Rattle.std.proofs.Common.{◌≡◌, ℕ, ◌-◌, Bool, true, false, if◌then◌else◌, List, [], ◌∷◌, length, Option, Some, None, refl, ap, ◌∙◌, inl, inr}
+use Rattle.std.proofs.Common.{◌≡◌, ℕ, ◌-◌, Bool, true, false, if◌then◌else◌, List, [], ◌∷◌, length, Option, Some, None, refl, ap, ◌∙◌, inl, inr, arith}
 use Rattle.std.specs.Prelude.{◌⊎◌, option_map, nat_le}
-use Rattle.std.specs.Option.{option_map_or}
+use Rattle.std.proofs.lemmas.Grind.{common_steps}
 use Rattle.crash_disk.specs.Disk.{History, FaultPlan}
 use Rattle.plasma_tx.specs.declared.call.RootCall.{RootCall}
 use Rattle.plasma_tx.specs.Shown.{Rules}
 use Rattle.node_rules.specs.declared.identity.WalletIdentity.{WalletIdentity}
 use Rattle.node_rules.specs.Wallet.{WalletRecords}
-use Rattle.node_rules.specs.WalletRecords.{identity_in}
-use Rattle.node_replies.specs.Roles.{Wallet, Watcher}
 use Rattle.node_replies.specs.declared.reply.Reply.{Reply}
 use Rattle.node_replies.specs.declared.order.WalletOrder.{WalletOrder}
 use Rattle.node_replies.specs.declared.order.WatcherOrder.{WatcherOrder}
@@ -19,16 +17,15 @@ use Rattle.node_lines.specs.Grammar.{wallet_line_in, watcher_line_in}
 use Rattle.node_roles.specs.Notes.{NotesAt}
 use Rattle.node_roles.specs.Nodes.{NodeAt}
 use Rattle.run_endings.specs.declared.status.Status.{Status}
-use Rattle.run_endings.specs.declared.status.Status.TheVariants.{Done}
 use Rattle.node_runs.specs.Sessions.{Outside}
 use Rattle.node_runs.specs.Runs.{RunsWatcher, RunsWallet}
 use Rattle.node_lives.specs.Disks.{Pair}
-use Rattle.node_lives.specs.Calls.{Asked, ToBegin, ToRun, DoesAsked, Starves, Call}
+use Rattle.node_lives.specs.Calls.{Asked, DoesAsked, Starves, Call}
 use Rattle.node_lives.specs.Answered.{Lines, lines_answered}
-use Rattle.world_rules.specs.Events.{Event, Joins, Watches, Leaves, Seals, log_of, wallet_owner, node_in}
+use Rattle.world_rules.specs.Events.{Event, Joins, Leaves, log_of, wallet_owner, node_in}
 use Rattle.world_rules.specs.OrderEvents.{unless_refused, of_offer, wallet_event, watcher_event, event_of}
 use Rattle.world_rules.specs.Steps.{without_offers}
-use Rattle.chain_lives.specs.Steps.{Deed, Visit, Act, Begins, Runs, Rests, Step, Enters, Refuses, Does, Found, chain_of, left_by, event_where, answered_events, late_events, act_events, found_by, none_found, events_behind, is_found}
+use Rattle.chain_lives.specs.Steps.{Deed, Visit, Act, Runs, Step, Enters, Refuses, Does, Found, chain_of, left_by, event_where, answered_events, late_events, act_events, found_by, none_found, events_behind}
 use Rattle.chain_lives.specs.Acts.{line_event, wallet_deed, watcher_deed, deeds_of, commands_in, next_in, log_in, visit_of, begun_by, ran_or, wallet_visit, watcher_visit, act_by, act_of, acts_of}
 use Rattle.chain_lives.specs.Log.{EventsHoldTheChain}
 
@@ -48,10 +45,7 @@ quiet_step n event events quiet = refl
 
 pub without_quiet : (n : ℕ) (event : Event) → IsQuiet n event → IsQuiet n (without_offers n event)
 unfolding log_of wallet_owner
-without_quiet n (Watches m calls) quiet = record { calls = refl; owners = λ w. refl; own = refl }
-without_quiet n (Leaves m call) quiet = record { calls = refl; owners = λ w. refl; own = refl }
-without_quiet n (Seals call) quiet = record { calls = refl; owners = λ w. refl; own = refl }
-without_quiet n event quiet = quiet
+without_quiet n event quiet = grind (arith, common_steps) steps 20000
 
 unless_quiet : (n : ℕ) (reply : Reply) (event : Event) → IsQuiet n event → IsQuiet n (unless_refused n reply event)
 unfolding log_of wallet_owner
@@ -60,9 +54,7 @@ unless_quiet n reply event quiet = quiet
 
 offer_quiet : (n : ℕ) (calls : List RootCall) → IsQuiet n (of_offer n (Leaves n) calls)
 unfolding log_of wallet_owner
-offer_quiet n [] = record { calls = refl; owners = λ w. refl; own = refl }
-offer_quiet n (call ∷ []) = record { calls = refl; owners = λ w. refl; own = refl }
-offer_quiet n (call ∷ more ∷ calls) = record { calls = refl; owners = λ w. refl; own = refl }
+offer_quiet n calls = grind (arith, common_steps) steps 20000
 
 wallet_quiet : (n : ℕ) (order : WalletOrder) (response : Response) → IsQuiet n (wallet_event n order response)
 unfolding log_of wallet_owner
@@ -71,9 +63,7 @@ wallet_quiet n order response = record { calls = refl; owners = λ w. refl; own 
 
 watcher_quiet : (n : ℕ) (order : WatcherOrder) (response : Response) → IsQuiet n (watcher_event n order response)
 unfolding log_of wallet_owner
-watcher_quiet n (WatcherOrder.Guard bundle) response = record { calls = refl; owners = λ w. refl; own = refl }
-watcher_quiet n (WatcherOrder.Release coin tip) response = record { calls = refl; owners = λ w. refl; own = refl }
-watcher_quiet n WatcherOrder.Watch response = record { calls = refl; owners = λ w. refl; own = refl }
+watcher_quiet n order response = grind (arith, common_steps) steps 20000
 
 -- ---- commands
 
@@ -148,27 +138,12 @@ answered_log n written (deed ∷ deeds) events quiet =
 
 late_log : (n : ℕ) (found : Option WalletRecords) (visit : Visit) (events : List Event) → MayBeQuiet n visit.next
     → log_of (late_events n found visit events) ≡ log_of events
-late_log n found visit events quiet =
-    by (is_found (left_by visit.found visit.deeds) found) visit.next quiet
-  where
-    late : Option Deed → List Event
-    late next = option_map_or (λ (deed : Deed). without_offers n deed.event ∷ events) next events
-
-    by : (b : Bool) (next : Option Deed) → MayBeQuiet n next
-        → log_of (if b then late next else events) ≡ log_of events
-    by false next quiet = refl
-    by true None quiet = refl
-    by true (Some deed) quiet = quiet_step n (without_offers n deed.event) events (without_quiet n deed.event quiet)
+late_log n found visit events quiet = grind (arith, common_steps, quiet_step, without_quiet) steps 20000
 
 act_log : (n : ℕ) (found : Option WalletRecords) (act : Act) (events : List Event) → IsQuietAct n act
     → log_of (act_events n found act events) ≡ log_of events
 unfolding log_of
-act_log n found (Begins (Some me)) events quiet = refl
-act_log n found (Begins None) events quiet = refl
-act_log n found (Runs visit) events quiet =
-    late_log n found visit (answered_events n visit.written visit.deeds events) quiet.1
-    ∙ answered_log n visit.written visit.deeds events quiet.0
-act_log n found Rests events quiet = refl
+act_log n found act events quiet = grind (arith, common_steps, late_log, answered_log) steps 20000
 
 begun_quiet : (n : ℕ) (who : Option WalletIdentity) → IsQuietAct n (begun_by who)
 begun_quiet n None = tt
@@ -199,11 +174,8 @@ module _ {D : Type 0} (told : D → Option History) (plan : D → Option FaultPl
       (did : DoesAsked told plan faults dig asked old new outside status ⊎ Starves old new status)
       → IsQuietAct n (act_by told plan faults dig n asked old new outside status did)
   unfolding act_by
-  by_call n (ToBegin disks identity) old new outside Done did = begun_quiet n (identity_in identity)
-  by_call n (ToRun Wallet) old new outside status (inl did) = by_wallet n old new outside status did
-  by_call n (ToRun Watcher) old new outside status (inl did) =
-      by_watcher n old.notes new.notes outside status did.0
-  by_call n asked old new outside status did = tt
+  by_call n asked old new outside status did =
+      grind (arith, common_steps, begun_quiet, by_wallet, by_watcher) steps 20000
 
   pub behind : (found : Found) (steps : List (Step (Call told plan faults dig)))
       → log_of (events_behind found (acts_of told plan faults dig steps)) ≡ chain_of steps

@@ -1,7 +1,8 @@
 -- A node's calls of the program, as acts: which they are, and which records its next run may find.
-use Rattle.std.proofs.Common.{◌≡◌, ◌⊎◌, ℕ, List, [], ◌∷◌, ◌++◌, Option, Some, None, refl, sym, ap, subst, inl, inr}
+use Rattle.std.proofs.Common.{◌≡◌, ◌⊎◌, ℕ, List, [], ◌∷◌, ◌++◌, Option, Some, None, refl, sym, ap, subst, inl, inr, arith}
 use Rattle.std.specs.Prelude.{option_map}
 use Rattle.std.proofs.lemmas.List.Elements.{All-head}
+use Rattle.std.proofs.lemmas.Grind.{common_steps}
 use Rattle.crash_disk.specs.Disk.{History, FaultPlan}
 use Rattle.node_journal.specs.Parts.{alone, both}
 use Rattle.node_rules.specs.declared.identity.WalletIdentity.{WalletIdentity}
@@ -235,10 +236,7 @@ module _ {D : Type 0} (told : D → Option History) (plan : D → Option FaultPl
       → asked ≡ ToBegin disks identity → status ≡ Done
       → act_by told plan faults dig n asked old new outside status did ≡ begun_by (identity_in identity)
   unfolding act_by
-  first-is n disks identity (ToBegin also other) old new outside Done did same made =
-      ap (λ (bytes : List ℕ). begun_by (identity_in bytes)) (cc same)
-  first-is n disks identity (ToBegin also other) old new outside status did same made = absurd (cc made)
-  first-is n disks identity asked old new outside status did same made = absurd (cc same)
+  first-is n disks identity asked old new outside status did same made = grind (arith, common_steps) steps 20000
 
   -- a node that was begun did that, and no more
   pub first-act : (role : Role) (n : ℕ) (call : TheCall) (begins : BeginsNode told plan faults dig role call)
@@ -285,10 +283,7 @@ module _ {D : Type 0} (told : D → Option History) (plan : D → Option FaultPl
       by : DoesAsked told plan faults dig call.asked call.old call.new call.outside call.status
           ⊎ Starves call.old call.new call.status
           → Only told role (λ r. r ≡ identity_alone begins.identity) call.new
-      by (inl did) =
-          first-only role begins.identity call.old call.new call.outside call.status
-          (subst (λ (a : Asked). DoesAsked told plan faults dig a call.old call.new call.outside call.status)
-          begins.asked did) begins.made
+      by (inl did) = grind (arith, common_steps, first-only) steps 20000
       by (inr starves) = absurd (let none = starves.0 in let made = begins.made in cc (none, made))
 
   -- ---- the calls behind it

@@ -3,8 +3,9 @@
 use Rattle.std.proofs.Common.{◌≡◌, ◌⊎◌, ℕ, ◌^◌, ◌<◌, ◌+◌, Bool, true, false, if◌then◌else◌, List, [], ◌∷◌, length, Option, Some, None, refl, sym, ap, ◌∙◌, subst, inl, inr, arith, length-append}
 use Rattle.std.specs.Prelude.{option_map, nat_lt}
 use Rattle.std.specs.Option.{option_map_or}
-use Rattle.std.specs.List.{AllByRecursion, filter_map, cons_option}
+use Rattle.std.specs.List.{AllByRecursion, filter_map}
 use Rattle.std.proofs.lemmas.Bool.Decides.{nat_tests}
+use Rattle.std.proofs.lemmas.Grind.{common_steps}
 use Rattle.plasma_tx.specs.declared.call.RootCall.{RootCall}
 use Rattle.plasma_tx.specs.Chain.{Chain}
 use Rattle.plasma_tx.specs.Views.{blocks}
@@ -14,7 +15,6 @@ use Rattle.node_replies.specs.Orders.{with_record}
 use Rattle.node_answers.specs.Answers.{Outcome}
 use Rattle.node_roles.specs.Notes.{NotesAt}
 use Rattle.node_roles.specs.Nodes.{NodeAt}
-use Rattle.node_sessions.specs.Sessions.{calls_of}
 use Rattle.streamed_lines.specs.Reading.{next_text}
 use Rattle.node_runs.specs.Sessions.{Outside}
 use Rattle.node_lives.specs.Answered.{Lines}
@@ -48,28 +48,7 @@ grown records (Some body) = inr (length-append records (body ∷ []))
 -- what a command leaves is what there was, or it is found
 pub left-or-found : (records : WalletRecords) (outcome : Outcome) → (with_outcome records outcome ≡ records)
     ⊎ (is_found records (Some (with_outcome records outcome)) ≡ true)
-left-or-found records outcome = by (grown records.notes outcome.note) (grown records.leaves outcome.leaf)
-  where
-    notes : List (List ℕ)
-    notes = with_record records.notes outcome.note
-
-    leaves : List (List ℕ)
-    leaves = with_record records.leaves outcome.leaf
-
-    by : (notes ≡ records.notes) ⊎ (length notes ≡ length records.notes + 1)
-        → (leaves ≡ records.leaves) ⊎ (length leaves ≡ length records.leaves + 1)
-        → (with_outcome records outcome ≡ records)
-        ⊎ (is_found records (Some (with_outcome records outcome)) ≡ true)
-    by (inl one) (inl other) = inl (λ i. record { notes = one i; leaves = other i })
-    by (inl one) (inr more) =
-        inr (more-less (length records.notes) (length records.leaves) (length notes) (length leaves)
-        (omega (arith, ap length one, more)))
-    by (inr more) (inl other) =
-        inr (more-less (length records.notes) (length records.leaves) (length notes) (length leaves)
-        (omega (arith, more, ap length other)))
-    by (inr more) (inr also) =
-        inr (more-less (length records.notes) (length records.leaves) (length notes) (length leaves)
-        (omega (arith, more, also)))
+left-or-found records outcome = grind (arith, common_steps, grown, more-less) steps 20000
 
 -- ---- a run
 
@@ -79,12 +58,7 @@ good-commands : {L : Type 0} (command_in : List ℕ → Option L) (Good : L → 
     → AllByRecursion Good (filter_map command_in texts)
 good-commands command_in Good each [] = tt
 good-commands {L} command_in Good each (text ∷ texts) =
-    by (command_in text) refl (good-commands command_in Good each texts)
-  where
-    by : (found : Option L) → command_in text ≡ found → AllByRecursion Good (filter_map command_in texts)
-        → AllByRecursion Good (cons_option found (filter_map command_in texts))
-    by None spells rest = rest
-    by (Some command) spells rest = (each text command spells, rest)
+    grind (arith, common_steps, good-commands command_in Good each texts) steps 20000
 
 -- what a run leaves behind events, where the next one finds this: they are legal, and say what the records are, which
 -- are found then
@@ -122,16 +96,7 @@ module _ (dig : List ℕ → List ℕ) (rules : Rules) (n : ℕ) {L : Type 0} (c
 
   over-by : (over : Bool) (found : Option Chain) → lines.stream.run.is_over ≡ over → lines.stream.run.log ≡ found
       → over ≡ true → Over
-  over-by true None is there on = absurd (let some = comes.logged is in cc (some, there))
-  over-by true (Some chain) is there on =
-      let ended : ended_log lines ≡ Some chain =
-      ap (λ (b : Bool). if b then lines.stream.run.log else None) is ∙ there in
-      let known = handed chain ended in
-      record {
-        tag_is = ap (λ (r : Rules). r.tag) (sym known.0) ∙ comes.tagged chain there;
-        log_is = ap calls_of there ∙ known.1;
-      }
-  over-by false found is there on = absurd (cc on)
+  over-by over found is there on = grind (arith, common_steps) steps 20000
 
   module _ (start : List Event) (legal : IsLegal (tests_by dig) rules start) (log_is : log_of start ≡ log)
       (tells : Tells start found) where

@@ -1,5 +1,5 @@
 -- A run of a wallet that was just begun: it reads a log without calls, and watches.
-use Rattle.std.proofs.Common.{◌≡◌, ◌+◌, ◌++◌, ℕ, Bool, true, false, if◌then◌else◌, List, [], ◌∷◌, length, codes, Option, Some, None, Result, Ok, Err, refl, sym, ap, ◌∙◌, subst, inl, lit<}
+use Rattle.std.proofs.Common.{◌≡◌, ◌+◌, ◌++◌, ℕ, true, false, List, [], ◌∷◌, length, codes, Option, Some, None, Result, Ok, refl, sym, ap, ◌∙◌, subst, inl, lit<, arith}
 use Rattle.std.specs.Prelude.{replicate}
 use Rattle.crash_disk.specs.Disk.{Step, content}
 use Rattle.crash_disk.specs.Calls.{passed}
@@ -7,6 +7,7 @@ use Rattle.plasma_base.specs.HexText.{hex_in, digits_in}
 use Rattle.plasma_tx.specs.Chain.{Chain}
 use Rattle.line_forms.specs.Forms.{value_in}
 use Rattle.std.proofs.lemmas.Fmt.{decimal_digit}
+use Rattle.std.proofs.lemmas.Grind.{common_steps}
 use Rattle.plasma_tx.specs.Views.{coins}
 use Rattle.line_forms.specs.Tokens.{number_in, number_text, number_within_in, hex_of_in}
 use Rattle.root_log.specs.Grammar.{chain_in}
@@ -15,7 +16,7 @@ use Rattle.gate_journal.specs.Journal.{IsSettled}
 use Rattle.gate_journal.specs.Steps.{open_steps}
 use Rattle.node_journal.specs.Notes.{Opened}
 use Rattle.node_journal.specs.Role.{are_of, role_in}
-use Rattle.node_journal.specs.Begin.{is_taken, journal_steps, init_steps, InitsOver, PassesInit}
+use Rattle.node_journal.specs.Begin.{is_taken, journal_steps, init_steps, PassesInit}
 use Rattle.node_journal.specs.Parts.{both}
 use Rattle.leaf_journal.specs.Records.{leaf_records_read_of, leaf_records_in_of, records_behind_of}
 use Rattle.node_rules.specs.WalletRecords.{wallet_kinds, is_body, identity_in, notes_of, who_is}
@@ -29,15 +30,13 @@ use Rattle.node_lines.specs.Grammar.{wallet_line_in}
 use Rattle.node_answers.specs.Answers.{Outcome, given_text, wallet_outcome}
 use Rattle.wallet_node.specs.State.{WalletState}
 use Rattle.wallet_node.specs.Opening.{OpensWallet}
-use Rattle.node_roles.specs.Notes.{NotesAt, with_note}
-use Rattle.node_roles.specs.Nodes.{NodeAt, node_with, node_does}
+use Rattle.node_roles.specs.Notes.{NotesAt}
+use Rattle.node_roles.specs.Nodes.{NodeAt}
 use Rattle.node_roles.specs.Roles.{wallet_parts, wallet_commands}
-use Rattle.node_sessions.specs.Sessions.{SessionState, begun, joins, first_log, leaves, done, command_line, next_line}
-use Rattle.streamed_lines.specs.declared.ending.Ending.{Ending}
-use Rattle.streamed_lines.specs.declared.ending.Ending.TheVariants.{Complete, TooLong}
-use Rattle.streamed_lines.specs.declared.ending.Stop.{Stop}
+use Rattle.node_sessions.specs.Sessions.{SessionState, begun, joins, first_log, leaves, next_line}
+use Rattle.streamed_lines.specs.declared.ending.Ending.TheVariants.{Complete}
 use Rattle.streamed_lines.specs.Lines.{lines_in, text_of, is_too_long}
-use Rattle.streamed_lines.specs.Streams.{Rules, Stream, Streamed, no_lines, next_number, with_answer, stream_or, goes_on, line_stream, stream_from, stream_of}
+use Rattle.streamed_lines.specs.Streams.{Rules, Stream, Streamed, no_lines, next_number, with_answer, goes_on, line_stream, stream_from, stream_of}
 use Rattle.run_endings.specs.Endings.{session_output, last_text}
 use Rattle.run_endings.specs.Outputs.{EndsAs}
 use Rattle.run_endings.specs.declared.status.Status.TheVariants.{Done}
@@ -54,13 +53,7 @@ use Rattle.node_lives.proofs.Drives.{after, asked, made, all-passed, telling, bl
 
 passes_init : (steps : List ℕ → List Step) (drive : Drive) → is_taken (content drive.history) ≡ false
     → PassesInit told foretold met steps drive (after passed steps false drive)
-passes_init steps drive free = record {
-  inits =
-      telling drive (λ before. InitsOver told foretold steps (content before) drive (Ok tt)
-      (after passed steps false drive))
-      (free, made passed steps _ false drive (all-passed _));
-  count = refl;
-}
+passes_init steps drive free = grind (arith, common_steps, telling, after, made, all-passed) steps 20000
 
 abbrev pub made_text : List ℕ
 made_text = codes "made" ++ 10 ∷ []
@@ -100,11 +93,7 @@ line-answered : {R C : Type 0} (rules : Rules R C) (start : ℕ) (stream : Strea
     → stream_from rules true start stream (line ∷ lines)
     ≡ stream_from rules true (start + length line) (with_answer stream answered) lines
 unfolding stream_from line_stream
-line-answered {R} {C} rules start stream line lines answered fits is =
-    let next : Result (Stream R) (Ending C) = stream_or stream (rules.next stream.run (text_of line)) in
-    let on : Stream R → Streamed R C = λ next. stream_from rules true (start + length line) next lines in
-    ap (λ (long : Bool). goes_on stream (if long then Err (TooLong (next_number stream)) else next) on) fits
-    ∙ ap (λ (o : Result (R × List ℕ) (Stop C)). goes_on stream (stream_or stream o) on) is
+line-answered rules start stream line lines answered fits is = grind (arith, common_steps) steps 20000
 
 chain-read : chain_in first_line ≡ Some chain
 unfolding chain_in value_in hex_of_in hex_in digits_in number_in number_within_in
@@ -137,12 +126,7 @@ module _ (dig : List ℕ → List ℕ) where
 
   pub watches : wallet_outcome dig [] (record { notes = identity ∷ []; leaves = [] }) watch_order ≡ offers_none
   unfolding wallet_outcome wallet_does watch_answer given_text reply_text coins
-  watches =
-      ap (λ (zero : List ℕ). record {
-        says = Ok (codes "offers" ++ (32 ∷ (((((zero ++ []) ++ []) ++ 10 ∷ []) ++ []) ++ [])));
-        note = None;
-        leaf = None;
-      }) none-offered
+  watches = grind (arith, common_steps, none-offered) steps 20000
 
   abbrev pub found : NodeAt NotesAt
   found = node_found told foretold met dig (wallet_parts wallet)
@@ -167,10 +151,7 @@ module _ (dig : List ℕ → List ℕ) where
 
   watch-answered : rules.next log_over (codes "watch") ≡ Ok (log_over, answer)
   unfolding next_line
-  watch-answered =
-      ap (λ (c : Option WalletLine). leaves log_over (command_line (node_does wallet_commands) [] found c))
-      watch-spelled
-      ∙ ap (λ (o : Outcome). leaves log_over (done (node_with with_note found o))) watches
+  watch-answered = grind (arith, common_steps, watch-spelled, watches) steps 20000
 
   abbrev pub streamed : Streamed (SessionState (NodeAt NotesAt)) (List ℕ)
   streamed = record {
@@ -224,11 +205,7 @@ module _ (dig : List ℕ → List ℕ) where
 
   pub found-keeps : (drive : Drive) (records : List (List ℕ)) → IsSettled drive.history records
       → Keeps told met (record { records = records; told = Some drive.history; faults = drive.met }) drive
-  found-keeps drive records settled = record {
-    told_is = refl;
-    faults_are = refl;
-    settled = telling drive (λ now. IsSettled now records) settled;
-  }
+  found-keeps drive records settled = grind (arith, common_steps, telling) steps 20000
 
   abbrev pub outside : Outside
   outside = record { left = Some input; later = Some []; taken = Some []; after = Some answer }

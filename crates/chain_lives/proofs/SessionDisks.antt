@@ -1,7 +1,8 @@
 -- What the disks of a node keep behind its run: what its answered commands left, or with what the next one adds, which
 -- it may have begun.
-use Rattle.std.proofs.Common.{◌≡◌, ◌⊎◌, ℕ, Bool, List, [], ◌∷◌, ◌++◌, Option, Some, None, refl, sym, ap, ◌∙◌, subst, inl, inr}
+use Rattle.std.proofs.Common.{◌≡◌, ◌⊎◌, ℕ, Bool, List, [], ◌∷◌, ◌++◌, Option, Some, None, refl, sym, ap, ◌∙◌, subst, inl, inr, arith}
 use Rattle.std.specs.Prelude.{option_map}
+use Rattle.std.proofs.lemmas.Grind.{common_steps}
 use Rattle.crash_disk.specs.Disk.{History, FaultPlan}
 use Rattle.plasma_tx.specs.declared.call.RootCall.{RootCall}
 use Rattle.node_journal.specs.Notes.{NotesState}
@@ -22,7 +23,6 @@ use Rattle.node_sessions.specs.Sessions.{SessionState, calls_of, commanded}
 use Rattle.streamed_lines.specs.Streams.{Stream}
 use Rattle.streamed_lines.specs.Reading.{next_text}
 use Rattle.run_endings.specs.declared.status.Status.{Status}
-use Rattle.run_endings.specs.declared.status.Status.TheVariants.{Done, Refused, Usage, BadLine, ReadFault, WriteFault, DeviceFault, NoMemory, TooLong, NotJournal, AlreadyMade}
 use Rattle.node_runs.specs.Disks.{Keeps, MayKeep, KeepsNode, NodeFailed}
 use Rattle.node_runs.specs.Sessions.{Outside, AtNext, BrokenAt}
 use Rattle.node_runs.specs.Runs.{NodeSession}
@@ -42,26 +42,14 @@ FoundBehind left next records = (records ≡ left) ⊎ ((deed : Deed) × (next �
 pub one-added : (dig : List ℕ → List ℕ) (log : List RootCall) (wallet : WalletRecords) (line : WalletLine)
     → ((wallet_outcome dig log wallet line).note ≡ None) ⊎ ((wallet_outcome dig log wallet line).leaf ≡ None)
 unfolding wallet_outcome
-one-added dig log wallet (WalletLine.Order order) = orders_add_one_record dig log wallet order
-one-added dig log wallet (WalletLine.State coin) = inl refl
-one-added dig log wallet WalletLine.Who = inl refl
+one-added dig log wallet line = grind (arith, common_steps, orders_add_one_record) steps 20000
 
 -- a session that was broken off left the node where its lines did, or behind the next command
 broken-left : {A L : Type 0} (command_in : List ℕ → Option L) (Left : A → Type 0)
     (Unanswered : List RootCall → A → L → Type 0) (status : Status) (ended : Bool) (bytes : List ℕ)
     (stream : Stream (SessionState A)) → BrokenAt command_in Left Unanswered status ended bytes stream
     → Left stream.run.node ⊎ AtNext command_in ended bytes stream Unanswered
-broken-left command_in Left Unanswered WriteFault ended bytes stream is = inl is
-broken-left command_in Left Unanswered NoMemory ended bytes stream is = is
-broken-left command_in Left Unanswered Done ended bytes stream is = absurd is
-broken-left command_in Left Unanswered Refused ended bytes stream is = absurd is
-broken-left command_in Left Unanswered Usage ended bytes stream is = absurd is
-broken-left command_in Left Unanswered BadLine ended bytes stream is = absurd is
-broken-left command_in Left Unanswered ReadFault ended bytes stream is = absurd is
-broken-left command_in Left Unanswered DeviceFault ended bytes stream is = absurd is
-broken-left command_in Left Unanswered TooLong ended bytes stream is = absurd is
-broken-left command_in Left Unanswered NotJournal ended bytes stream is = absurd is
-broken-left command_in Left Unanswered AlreadyMade ended bytes stream is = absurd is
+broken-left command_in Left Unanswered status ended bytes stream is = grind (arith, common_steps) steps 150000
 
 module _ {D : Type 0} (told : D → Option History) (plan : D → Option FaultPlan) (faults : D → ℕ)
     (dig : List ℕ → List ℕ) where
@@ -98,18 +86,8 @@ module _ {D : Type 0} (told : D → Option History) (plan : D → Option FaultPl
         (let rest = (keeps.settled l also).images other left in
         elim (fault-images notes.records body fails.passed notes.told (told new_notes) fails.told_is fails.any_moment n
         there one may) [
-          | inl without ↦ record {
-            kept = records_with notes (Some leaves);
-            keeps_notes = without;
-            keeps_leaves = rest;
-            is = is;
-          }
-          | inr with' ↦ record {
-            kept = record { notes = notes.records ++ body ∷ []; leaves = leaves.records };
-            keeps_notes = with';
-            keeps_leaves = rest;
-            is = more;
-          }
+          | inl without ↦ grind (arith, common_steps, records_with) steps 20000
+          | inr with' ↦ grind (arith, common_steps) steps 20000
         ])
 
     leaf-fails : (notes : NotesAt) (leaves : Option NotesAt) (note leaf : Option (List ℕ)) → note ≡ None
@@ -127,18 +105,8 @@ module _ {D : Type 0} (told : D → Option History) (plan : D → Option FaultPl
         (let front = (keeps.settled n there).images one may in
         elim (fault-images leaves.records body fails.passed leaves.told (told new_leaves) fails.told_is fails.any_moment
         l also other left) [
-          | inl without ↦ record {
-            kept = records_with notes (Some leaves);
-            keeps_notes = front;
-            keeps_leaves = without;
-            is = is;
-          }
-          | inr with' ↦ record {
-            kept = record { notes = notes.records; leaves = leaves.records ++ body ∷ [] };
-            keeps_notes = front;
-            keeps_leaves = with';
-            is = more;
-          }
+          | inl without ↦ grind (arith, common_steps, records_with) steps 20000
+          | inr with' ↦ grind (arith, common_steps) steps 20000
         ])
 
     never : {B : Type 0} (o : Option (List ℕ)) (at : Option NotesAt) (part : Option D) → o ≡ None
@@ -226,9 +194,7 @@ module _ {D : Type 0} (told : D → Option History) (plan : D → Option FaultPl
         (record { kept = at.notes.records; keeps = (keeps.0.settled n there).images image may; is = is })
 
     none-fails : (added : Option (List ℕ)) (at : Option NotesAt) → PartFails (MayKeep told faults) added at None → ⊥
-    none-fails None at fails = fails
-    none-fails (Some body) None fails = fails
-    none-fails (Some body) (Some at) fails = fails
+    none-fails added at fails = grind (arith, common_steps) steps 20000
 
     watcher-note : (notes : NotesAt) (note : Option (List ℕ))
         → PartFails (MayKeep told faults) note (Some notes) (Some new_notes) → P (notes_alone notes.records)

@@ -4,9 +4,9 @@ use Rattle.std.specs.Prelude.{replicate, nat_le}
 use Rattle.std.proofs.lemmas.Bool.{eq-eqb, and_from, false≢true}
 use Rattle.std.proofs.lemmas.List.{length-take-le}
 use Rattle.std.proofs.lemmas.Slice.Eq.{bytes_eq-Decides}
+use Rattle.std.proofs.lemmas.Grind.{common_steps}
 use Rattle.plasma_tx.specs.declared.owner.Owner.{Owner}
 use Rattle.plasma_tx.specs.declared.call.RootCall.{RootCall}
-use Rattle.plasma_tx.specs.Chain.{Chain}
 use Rattle.plasma_tx.specs.Shown.{Rules, rules_of}
 use Rattle.plasma_tx.specs.Table.{is_key, answer_to}
 use Rattle.plasma_tx.specs.Views.{coins, coin_at, blocks, is_withdrawn}
@@ -44,7 +44,7 @@ use Rattle.world_rules.specs.Exhibits.{openings_of, seen, strings_of, has_clash,
 use Rattle.world_rules.specs.Safety.{holds}
 use Rattle.world_rules.specs.Laws.{IsDigest}
 use Rattle.world_laws.specs.Looked.{is_looked_after}
-use Rattle.chain_lives.specs.Steps.{Visit, Act, Begins, Runs, Enters, Does, chain_of, answered_events, act_events, found_by, none_found, events_behind}
+use Rattle.chain_lives.specs.Steps.{Visit, Begins, Runs, Enters, Does, chain_of, answered_events, act_events, events_behind}
 use Rattle.chain_lives.specs.Acts.{answer_text, begun_by, wallet_deed, visit_of, wallet_visit, act_by, act_of, acts_of}
 use Rattle.chain_lives.specs.Chains.{Steps, events_in, calls_by, IsNode, MayEnter, MayDo, KeepsTo, IsChain}
 use Rattle.chain_lives.specs.SmallChain.{SmallChain}
@@ -66,10 +66,6 @@ identity-read = refl
 
 abbrev pub me : Owner
 me = owner_of begun_as
-
-account-is : me.account ≡ 0
-unfolding owner_of
-account-is = refl
 
 is-me : is_owner me me ≡ true
 is-me =
@@ -152,16 +148,9 @@ module _ (dig : List ℕ → List ℕ) where
       ap (λ (o : Outcome). (if nat_le (length (answer_text o.says)) 9 then Watches 1 [] else Other 1) ∷ events)
       (watches dig)
 
-  begun-events : events_in told foretold met dig rules begun ≡ Declares 1 me ∷ []
-  unfolding events_behind acts_of
-  begun-events = ap (λ (act : Act). act_events 1 None act []) act-begins
-
   watched-events : events_in told foretold met dig rules watched ≡ Watches 1 [] ∷ Declares 1 me ∷ []
   unfolding events_behind acts_of
-  watched-events =
-      (λ i. act_events 1 None (act-runs i)
-      (act_events 1 (found_by 1 (act-runs i) none_found 1) (act-begins i) []))
-      ∙ watch-events (Declares 1 me ∷ [])
+  watched-events = grind (arith, common_steps, act-runs, act-begins, watch-events) steps 20000
 
   pub all-events : events_in told foretold met dig rules steps
       ≡ Joins deposits ∷ Joins funds ∷ Watches 1 [] ∷ Declares 1 me ∷ []
@@ -183,17 +172,11 @@ module _ (dig : List ℕ → List ℕ) where
 
   may-deposit : MayEnter told foretold met dig rules funded_steps deposits
   unfolding chain_of answer_to balance_of pays takes share_of blocks coins owner_of
-  may-deposit = record {
-    accepted = simp key-reads refl;
-    offered = λ w other is starts. absurd (false≢true starts);
-  }
+  may-deposit = grind (arith, common_steps, key-reads, false≢true) steps 20000
 
   handed : MayDo told foretold met dig rules begun (act_of told foretold met dig 1 runs)
   unfolding chain_of
-  handed =
-      subst (MayDo told foretold met dig rules begun) (sym act-runs)
-      (λ other same. (let one : chain ≡ other = cc same in
-      subst (λ (c : Chain). (rules_of c ≡ rules) × (c.log ≡ [])) one (refl, refl)))
+  handed = grind (arith, common_steps, act-runs, chain) steps 20000
 
   fresh : MayDo told foretold met dig rules [] (act_of told foretold met dig 1 begins)
   unfolding chain_of events_behind acts_of wallet_owner

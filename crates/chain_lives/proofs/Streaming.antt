@@ -2,6 +2,7 @@
 use Rattle.std.proofs.Common.{◌≡◌, ◌≤◌, ℕ, ◌+◌, ◌||◌, ◌&&◌, not, Bool, true, false, ltb, if◌then◌else◌, List, [], ◌∷◌, ◌++◌, length, map, take, Option, Result, Ok, Err, refl, sym, ap, ◌∙◌, subst, arith}
 use Rattle.std.proofs.lemmas.Bool.Decides.{nat_tests}
 use Rattle.std.proofs.Math.Seq.{take-append_seam}
+use Rattle.std.proofs.lemmas.Grind.{common_steps}
 use Rattle.plasma_tx.specs.declared.call.RootCall.{RootCall}
 use Rattle.streamed_lines.specs.declared.TheConstants.{MOST_LINES}
 use Rattle.streamed_lines.specs.declared.ending.Ending.{Ending}
@@ -65,9 +66,7 @@ module _ {L : Type 0} (tag : List ℕ) (command_in : List ℕ → Option L)
   one-of : (stream next : Stream State) (line : List ℕ) (outcome : Result (State × List ℕ) (Stop (List ℕ)))
       → next_number stream ≤ MOST_LINES → next_line tag command_in answers stream.run (text_of line) ≡ outcome
       → stream_or stream outcome ≡ Ok next → OneLine stream next line
-  one-of stream next line (Err stop) few did is = absurd (cc is)
-  one-of stream next line (Ok answered) few did is =
-      record { answered = answered; is = did; same = cc is; few = few }
+  one-of stream next line outcome few did is = grind (arith, common_steps) steps 20000
 
   tested : (start : ℕ) (stream next : Stream State) (line : List ℕ) (long waits : Bool)
       → is_too_long (next_number stream) start line ≡ long
@@ -89,14 +88,7 @@ module _ {L : Type 0} (tag : List ℕ) (command_in : List ℕ → Option L)
 
   lines-none : (stream : Stream State) (lines : List (List ℕ)) → IsOn stream.run → stream.count ≤ MOST_LINES
       → Streams stream lines stream
-  lines-none stream lines goes few = record {
-    used = [];
-    rest = lines;
-    whole = refl;
-    count = omega arith;
-    few = few;
-    comes = came-none tag command_in answers does Q step stream.run goes;
-  }
+  lines-none stream lines goes few = grind (arith, common_steps, came-none) steps 20000
 
   lines-come : (ended : Bool) (start : ℕ) (stream : Stream State) (lines : List (List ℕ)) → IsOn stream.run
       → stream.count ≤ MOST_LINES → Streams stream lines (stream_from rules ended start stream lines).stream
@@ -136,11 +128,7 @@ module _ {L : Type 0} (tag : List ℕ) (command_in : List ℕ → Option L)
   -- ---- from the first line on
 
   begins : (first : NodeAt NotesAt) → Q first → IsOn (begun first)
-  begins first here = record {
-    node = here;
-    logged = λ wrong. absurd (cc wrong);
-    tagged = λ chain wrong. absurd (cc wrong);
-  }
+  begins first here = grind (arith, common_steps) steps 20000
 
   -- the lines of an input that were answered come to this
   pub record Finally (first : NodeAt NotesAt) (bytes : List ℕ) (stream : Stream State) : Type 0 where
@@ -155,12 +143,7 @@ module _ {L : Type 0} (tag : List ℕ) (command_in : List ℕ → Option L)
       → Streams (no_lines (begun first)) lines stream
       → ((used rest : List (List ℕ)) → lines ≡ used ++ rest → stream.count ≡ length used
       → take stream.count (lines_in bytes) ≡ used) → Finally first bytes stream
-  used-are first bytes stream lines streams are = record {
-    few = streams.few;
-    comes =
-        subst (λ (used : List (List ℕ)). Comes (begun first) (map text_of used) stream.run)
-        (sym (are streams.used streams.rest streams.whole (omega (arith, streams.count)))) streams.comes;
-  }
+  used-are first bytes stream lines streams are = grind (arith, common_steps) steps 20000
 
   pub session-comes : (first : NodeAt NotesAt) (bytes : List ℕ) (ended : Bool) → Q first
       → Finally first bytes (stream_of rules (begun first) bytes ended).stream

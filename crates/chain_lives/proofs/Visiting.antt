@@ -1,7 +1,7 @@
 -- The session of a run, as the commands that it answered: where they leave the node, and what its log is.
 use Rattle.std.proofs.Common.{◌≡◌, ◌≤◌, ◌<◌, ◌^◌, ℕ, true, false, List, [], Option, Some, None, is_some, Ok, refl, sym, ap, ◌∙◌, subst, arith, inl, inr}
 use Rattle.std.specs.Prelude.{option_map}
-use Rattle.std.specs.List.{filter_map}
+use Rattle.std.proofs.lemmas.Grind.{common_steps}
 use Rattle.crash_disk.specs.Disk.{History, FaultPlan}
 use Rattle.plasma_tx.specs.declared.call.RootCall.{RootCall}
 use Rattle.plasma_tx.specs.Chain.{Chain}
@@ -129,14 +129,7 @@ module _ {D : Type 0} (told : D → Option History) (plan : D → Option FaultPl
   came-of : (bytes : List ℕ) (stream : Stream (SessionState (NodeAt NotesAt)))
       → Finally tag commands.command_in (node_does commands) does Q step first bytes stream
       → blocks (calls_of stream.run.log) ≤ stream.count → Came (record { bytes = bytes; stream = stream })
-  came-of bytes stream finally few = record {
-    node = finally.comes.node;
-    kept = finally.comes.kept;
-    none = λ off. ap (filter_map commands.command_in) (finally.comes.none off);
-    logged = finally.comes.logged;
-    tagged = finally.comes.tagged;
-    few = omega (arith, few, finally.few);
-  }
+  came-of bytes stream finally few = grind (arith, common_steps) steps 20000
 
   -- any node is one
   any-step : (log : List RootCall) (at : NodeAt NotesAt) (line : List ℕ) (command : L) (left : NodeAt NotesAt)

@@ -1,7 +1,8 @@
 -- What a wallet's command is, where events say what its records are: a legal event; and with it they say so still.
-use Rattle.std.proofs.Common.{◌≡◌, ℕ, ◌^◌, ◌<◌, true, List, [], ◌∷◌, Option, Some, None, refl, sym, ap, ◌∙◌, subst}
+use Rattle.std.proofs.Common.{◌≡◌, ℕ, ◌^◌, ◌<◌, true, List, ◌∷◌, Option, Some, None, refl, sym, ap, ◌∙◌, subst, arith}
 use Rattle.std.proofs.lemmas.Bool.{false≢true}
 use Rattle.std.specs.Prelude.{IfSome}
+use Rattle.std.proofs.lemmas.Grind.{common_steps}
 use Rattle.line_forms.specs.Tokens.{optional_number}
 use Rattle.node_journal.specs.Role.{Kinds, are_of}
 use Rattle.plasma_tx.specs.declared.call.RootCall.{RootCall}
@@ -10,12 +11,11 @@ use Rattle.plasma_tx.specs.Shown.{Rules, tests_by}
 use Rattle.wallet_core.specs.State.{is_noted}
 use Rattle.node_rules.specs.WalletRecords.{who_is, wallet_kinds}
 use Rattle.node_rules.specs.WalletCommandLaws.{with_more, HaveOpenings}
-use Rattle.node_rules.specs.Wallet.{WalletRecords, who, noted, again_answer}
+use Rattle.node_rules.specs.Wallet.{WalletRecords, who, noted}
 use Rattle.node_rules.proofs.WalletGrow.{wallet-parts}
 use Rattle.node_replies.specs.declared.order.WalletOrder.{WalletOrder}
 use Rattle.node_replies.specs.declared.order.NodeOrder.{NodeOrder}
-use Rattle.node_replies.specs.Causes.{wallet_cause}
-use Rattle.node_replies.specs.Orders.{on_sent, with_record, wallet_does}
+use Rattle.node_replies.specs.Orders.{with_record, wallet_does}
 use Rattle.node_lines.specs.declared.wallet_line.WalletLine.{WalletLine}
 use Rattle.node_lines.specs.Grammar.{IsWalletLine}
 use Rattle.node_answers.specs.Answers.{wallet_outcome}
@@ -59,9 +59,7 @@ pub record TellsWallet (dig : List ℕ → List ℕ) (tag : List ℕ) (n : ℕ) 
 pub who-more : (kinds : Kinds) (records : List (List ℕ)) (note : Option (List ℕ)) → are_of kinds records ≡ true
     → who_is (with_record records note) ≡ who_is records
 unfolding who_is
-who-more kinds [] added is = absurd (false≢true is)
-who-more kinds (first ∷ records) None is = refl
-who-more kinds (first ∷ records) (Some body) is = refl
+who-more kinds records added is = grind (arith, common_steps, false≢true) steps 20000
 
 records-more : (records : List (List ℕ)) (added : Option (List ℕ)) → with_more added records ≡ with_record records added
 records-more records None = refl
@@ -72,15 +70,7 @@ module _ (dig : List ℕ → List ℕ) (tag : List ℕ) (n : ℕ) (events : List
   -- behind more events that say nothing of the wallet
   pub wallet-aside : (more : List Event) → log_of more ≡ log_of events → said more n ≡ said events n
       → left_by more n ≡ left_by events n → TellsWallet dig tag n more wallet
-  wallet-aside more log same starts = record {
-    kept =
-        subst (λ (s : Said). KeptWallet dig s (log_of more) wallet) (sym same)
-        (subst (λ (l : List RootCall). KeptWallet dig (said events n) l wallet) (sym log) tells.kept);
-    tag_is = tells.tag_is;
-    shown = subst (λ (s : Said). AreShown tag s.accepted (accepted_in dig wallet.notes)) (sym same) tells.shown;
-    openings = tells.openings;
-    left = λ c e is. tells.left c e (ap (λ (calls : List RootCall). is_left calls c e) (sym starts) ∙ is);
-  }
+  wallet-aside more log same starts = grind (arith, common_steps, said, accepted_in) steps 20000
 
   -- with a call that joins the log
   pub wallet-joined : (call : RootCall) (more : List Event) → log_of more ≡ call ∷ log_of events
@@ -128,10 +118,7 @@ module _ (dig : List ℕ → List ℕ) (rules : Rules) (n : ℕ) (events : List 
   order-kept (WalletOrder.Send coin to last) fit =
       by-more _ _ _
       (sends-kept dig (said events n) log wallet tells.kept few coin to last fit.0 fit.1.is fit.1.key fit.2 n)
-  order-kept (WalletOrder.Again coin) fit =
-      each-answer
-      (λ r. KeptWallet dig (told (event_of n (NodeOrder.Wallet (WalletOrder.Again coin)) r) (said events n)) log wallet)
-      wallet_cause on_sent (again_answer wallet coin) (λ sent is. tells.kept) (λ why. tells.kept)
+  order-kept (WalletOrder.Again coin) fit = grind (arith, common_steps, each-answer, told, said) steps 20000
   order-kept (WalletOrder.Leave coin) fit =
       by-more _ _ _ (leaves-kept dig (said events n) log wallet tells.kept few n coin fit)
   order-kept (WalletOrder.Reclaim bytes) fit =
@@ -227,18 +214,7 @@ module _ (dig : List ℕ → List ℕ) (rules : Rules) (n : ℕ) (events : List 
   other-follows : (deed : Deed) → deed.event ≡ Other n → deed.left ≡ wallet
       → Follows dig rules n (TellsWallet dig rules.tag n) events deed
   unfolding log_of left_by
-  other-follows deed is same =
-      let aside = wallet-aside dig rules.tag n events wallet tells (Other n ∷ events) refl
-      (said-near n events (Other n) refl) refl in
-      record {
-        legal = subst (IsLegalEvent (tests_by dig) rules events) (sym is) tt;
-        tells =
-            subst (λ (e : Event). TellsWallet dig rules.tag n (e ∷ events) deed.left) (sym is)
-            (subst (TellsWallet dig rules.tag n (Other n ∷ events)) (sym same) aside);
-        silent =
-            subst (λ (e : Event). TellsWallet dig rules.tag n (without_offers n e ∷ events) deed.left) (sym is)
-            (subst (TellsWallet dig rules.tag n (Other n ∷ events)) (sym same) aside);
-      }
+  other-follows deed is same = grind (arith, common_steps, wallet-aside, said-near) steps 150000
 
   -- a command in the grammar
   pub wallet-follows : (line : WalletLine) → IsWalletLine line

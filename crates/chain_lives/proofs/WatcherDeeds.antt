@@ -1,6 +1,7 @@
 -- What a watcher's order is, where events say what its records are: a legal event; and with it they say so still.
-use Rattle.std.proofs.Common.{◌≡◌, ℕ, true, List, [], ◌∷◌, Option, Some, None, refl, sym, ap, ◌∙◌, subst}
+use Rattle.std.proofs.Common.{◌≡◌, ℕ, true, List, [], ◌∷◌, Option, None, refl, sym, ap, ◌∙◌, subst, arith}
 use Rattle.std.proofs.lemmas.Bool.{false≢true}
+use Rattle.std.proofs.lemmas.Grind.{common_steps}
 use Rattle.node_journal.specs.Role.{Kinds, are_of}
 use Rattle.plasma_tx.specs.declared.call.RootCall.{RootCall}
 use Rattle.plasma_tx.specs.Shown.{Rules, tests_by}
@@ -11,7 +12,7 @@ use Rattle.node_replies.specs.declared.order.NodeOrder.{NodeOrder}
 use Rattle.node_replies.specs.Orders.{with_record, watcher_does}
 use Rattle.node_lines.specs.Grammar.{IsWatcherLine}
 use Rattle.node_answers.specs.Answers.{watcher_outcome}
-use Rattle.world_rules.specs.Events.{Event, log_of, wallet_owner, guarded_by}
+use Rattle.world_rules.specs.Events.{Event, log_of, wallet_owner}
 use Rattle.world_rules.specs.World.{Node, Watcher}
 use Rattle.world_rules.specs.OrderEvents.{event_of}
 use Rattle.world_rules.specs.Steps.{without_offers}
@@ -53,19 +54,12 @@ guardian notes = record {
 who-more : (kinds : Kinds) (records : List (List ℕ)) (note : Option (List ℕ)) → are_of kinds records ≡ true
     → who_is (with_record records note) ≡ who_is records
 unfolding who_is
-who-more kinds [] added is = absurd (false≢true is)
-who-more kinds (first ∷ records) None is = refl
-who-more kinds (first ∷ records) (Some body) is = refl
+who-more kinds records added is = grind (arith, common_steps, false≢true) steps 20000
 
 -- behind more events that say nothing of the watcher
 pub watcher-aside : (dig : List ℕ → List ℕ) (tag : List ℕ) (n : ℕ) (events more : List Event) (records : WalletRecords)
     → TellsWatcher dig tag n events records → said more n ≡ said events n → TellsWatcher dig tag n more records
-watcher-aside dig tag n events more records tells same = record {
-  kept = subst (λ (s : Said). KeptWatcher dig s records.notes) (sym same) tells.kept;
-  tag_is = tells.tag_is;
-  shown = subst (λ (s : Said). AreShown tag s.guarded (guards_in dig records.notes)) (sym same) tells.shown;
-  owner = ap (λ (s : Said). s.owner) same ∙ tells.owner;
-}
+watcher-aside dig tag n events more records tells same = grind (arith, common_steps) steps 20000
 
 module _ (dig : List ℕ → List ℕ) (rules : Rules) (n : ℕ) (events : List Event) (records : WalletRecords)
     (tells : TellsWatcher dig rules.tag n events records) where
@@ -102,20 +96,7 @@ module _ (dig : List ℕ → List ℕ) (rules : Rules) (n : ℕ) (events : List 
   owner-told : (order : WatcherOrder) (event : Event) (calls : List RootCall)
       → OrderEnds dig log n (guardian notes) (NodeOrder.Watcher order) event calls → (s : Said)
       → (told event s).owner ≡ s.owner
-  owner-told order event calls ends s = by _ event calls ends
-    where
-      by : (own : NodeOrder) (event : Event) (calls : List RootCall)
-          → OrderEnds dig log n (guardian notes) own event calls → (told event s).owner ≡ s.owner
-      by own event calls (Others order) = refl
-      by own event calls (Accepting bytes taken made) = refl
-      by own event calls (Binding coin to last sent made) = refl
-      by own event calls (Leaving coin call made) = refl
-      by own event calls (TakingBack bytes taken made) = refl
-      by own event calls Watching = refl
-      by own event calls (Guarding bytes taken made) = refl
-      by own event calls (Releasing coin tip) = refl
-      by own event calls GuardWatching = refl
-      by own event calls Sealing = refl
+  owner-told order event calls ends s = grind (arith, common_steps, told) steps 20000
 
   -- with an event that says of the watcher what the order's does
   order-tells : (order : WatcherOrder) → IsFitOrder (NodeOrder.Watcher order) → (event : Event)
@@ -145,10 +126,7 @@ module _ (dig : List ℕ → List ℕ) (rules : Rules) (n : ℕ) (events : List 
 
   watch-legal : LegalWatch rules events n (watch_answer dig notes log)
   unfolding watch_answer said
-  watch-legal =
-      watch-by (who_is notes).tag log (who_is notes).account (guarded_by events n) (guards_in dig notes)
-      (subst (λ t. AreShown t (guarded_by events n) (guards_in dig notes)) (sym tells.tag_is) tells.shown)
-      rules events n (sym tells.tag_is) refl tells.owner refl tells.kept.guards
+  watch-legal = grind (arith, common_steps, watch-by) steps 20000
 
   order-legal : (own : NodeOrder) (event : Event) (calls : List RootCall) → IsOrderAt Watcher own
       → OrderEnds dig log n (guardian notes) own event calls → IsLegalEvent (tests_by dig) rules events event
@@ -167,9 +145,7 @@ module _ (dig : List ℕ → List ℕ) (rules : Rules) (n : ℕ) (events : List 
   -- ---- a command
 
   fit-order : (order : WatcherOrder) → IsWatcherLine order → IsFitOrder (NodeOrder.Watcher order)
-  fit-order (WatcherOrder.Guard bundle) is = record { are = is.0 }
-  fit-order (WatcherOrder.Release coin tip) is = (is.0, is.1.0)
-  fit-order WatcherOrder.Watch is = tt
+  fit-order order is = grind (arith, common_steps) steps 20000
 
   -- a command in the grammar
   pub watcher-follows : (order : WatcherOrder) → IsWatcherLine order
