@@ -1,6 +1,7 @@
-"""Plays the cases of crates/run_cases/data (docs/CASES.md has their form) by a program over files, and gives each run
-as a vector. A run that needs what no program over files and pipes has (a call that fails, the digest of few values)
-isn't played, and says so; nor is what stands behind it in its case, where that takes what it left.
+"""Plays the cases of crates/run_cases/data and crates/run_signer_cases/data (docs/CASES.md has their form) by a program
+over files, and gives each run as a vector. A run that needs what no program over files and pipes has (a call that
+fails, the digest of few values) isn't played, and says so; nor is what stands behind it in its case, where that takes
+what it left.
 """
 import hashlib
 import os
@@ -12,7 +13,7 @@ TOP = os.path.dirname(HERE)
 sys.path[:0] = [f"{TOP}/tools", f"{TOP}/bench"]
 import cases  # noqa: E402
 from agreeing import Step  # noqa: E402
-from cases import DATA, NAMES, Unknown, combinations, expand, lines_of, tables_of  # noqa: E402
+from cases import NAMES, Unknown, combinations, expand, lines_of, place_of, tables_of  # noqa: E402
 
 STATUSES = {"Done": 0, "Refused": 1, "Usage": 2, "BadLine": 3, "ReadFault": 4, "WriteFault": 5, "DeviceFault": 6,
             "NoMemory": 7, "TooLong": 8, "NotJournal": 9, "AlreadyMade": 10}
@@ -235,7 +236,7 @@ class Player:
 
 
 def read(file):
-    with open(f"{DATA}/{file}", encoding="utf-8", newline="") as text:
+    with open(place_of(file), encoding="utf-8", newline="") as text:
         return text.read()
 
 

@@ -1,15 +1,26 @@
-"""Reads the cases of crates/run_cases/data (docs/CASES.md has their form), and gives the input of each run that they
-make and what is expected of it. No program is run: a run that takes what an earlier one printed is left out.
+"""Reads the cases of crates/run_cases/data and crates/run_signer_cases/data (docs/CASES.md has their form), and gives
+the input of each run that they make and what is expected of it. No program is run: a run that takes what an earlier
+one printed is left out.
 """
 import os
 import re
 
 TOP = os.path.dirname(os.path.dirname(os.path.realpath(__file__)))
-DATA = f"{TOP}/crates/run_cases/data"
+# The programs that play cases: the files of each lie in its data/.
+PLAYERS = ("run_cases", "run_signer_cases")
 NAMES = "names"
 # What begins something else, so that the run in front of it is whole.
 CHANGES = ("run", "let", "notes", "leaves", "cut", "digest", "folder")
 HOLE = "{?"
+
+
+def data_of(player):
+    return f"{TOP}/crates/{player}/data"
+
+
+def place_of(file):
+    """Where a file of cases lies; that of the names is the first player's."""
+    return next(place for it in PLAYERS if os.path.isfile(place := f"{data_of(it)}/{file}"))
 
 
 class Unknown(Exception):
@@ -184,7 +195,7 @@ def runs(file):
     """The runs of a file of cases, each with its last line that is expected; without those whose input isn't known."""
     texts = []
     for name in (NAMES, file):
-        with open(f"{DATA}/{name}", encoding="utf-8", newline="") as it:
+        with open(place_of(name), encoding="utf-8", newline="") as it:
             texts.append(it.read())
     head, cases = lines_of(texts)
     begun = Played(file, {})
@@ -206,4 +217,4 @@ def runs(file):
 
 def files():
     """The files of cases."""
-    return sorted(set(os.listdir(DATA)) - {NAMES, "wrong"})
+    return sorted({name for it in PLAYERS for name in os.listdir(data_of(it))} - {NAMES, "wrong"})
