@@ -4,15 +4,17 @@ use Rattle.std.specs.List.{list_any}
 use Rattle.plasma_base.specs.Causes.{counted}
 use Rattle.plasma_outside.specs.declared.sink.SinkRefusal.{SinkRefusal}
 use Rattle.plasma_outside.specs.declared.sink.SinkRefusal.TheVariants.{Failed, NoMemory}
+use Rattle.plasma_outside.specs.Outside.{ends_after}
 
 -- an input: the bytes that are left, the length of each call's piece, the numbers of the calls that are to fail, how
--- many calls and faults there were, and whether the last call failed
+-- many calls and faults there were, how many calls gave the end, and whether the last one failed
 pub record MemInput : Type 0 where
   pub bytes : List ℕ
   pub pieces : List ℕ
   pub fails : List ℕ
   pub calls : ℕ
   pub faults : ℕ
+  pub ends : ℕ
   pub failed_last : Bool
 
 -- an output: the bytes that it has taken, the numbers of the calls that are to fail, and how many calls and faults
@@ -40,7 +42,12 @@ after_failed_take input =
 -- the input after a take that gave so many bytes
 abbrev pub after_good_take : MemInput → ℕ → MemInput
 after_good_take input n =
-    record input { calls = counted input.calls; bytes = drop n input.bytes; failed_last = false }
+    record input {
+      calls = counted input.calls;
+      bytes = drop n input.bytes;
+      ends = ends_after input.ends (Ok n);
+      failed_last = false;
+    }
 
 -- the input after a take into so much room
 abbrev pub after_take : MemInput → ℕ → MemInput

@@ -1,5 +1,7 @@
 -- What a take does to the bytes that a source has left, and a put to those that a sink has taken, where these are told.
-use Rattle.std.specs.Prelude.{◌≡◌, ◌↔◌, ℕ, ◌≤◌, Bool, true, false, List, [], ◌++◌, length, take, drop, Option, Some, None, Result, Ok, Err}
+use Rattle.std.specs.Prelude.{◌≡◌, ◌↔◌, ℕ, ◌≤◌, Bool, true, false, ◌==◌, if◌then◌else◌, List, [], ◌++◌, length, take, drop, Option, Some, None, Result, Ok, Err}
+use Rattle.plasma_base.specs.Causes.{counted}
+use Rattle.plasma_outside.specs.declared.source.SourceFailed.{SourceFailed}
 use Rattle.plasma_outside.specs.declared.sink.SinkRefusal.{SinkRefusal}
 use Rattle.plasma_outside.specs.declared.sink.SinkRefusal.TheVariants.{Failed, NoMemory}
 
@@ -16,6 +18,11 @@ abbrev pub Takes : {E : Type 0} → Option (List ℕ) → Option (List ℕ) → 
 Takes None left result room = left ≡ None
 Takes (Some bytes) left (Ok n) room = Took bytes left n room
 Takes (Some bytes) left (Err e) room = left ≡ Some bytes
+
+-- how many takes gave the end of the input, after one more
+abbrev pub ends_after : ℕ → Result ℕ SourceFailed → ℕ
+ends_after ends (Ok n) = if n == 0 then counted ends else ends
+ends_after ends (Err e) = ends
 
 -- a put behind the bytes that were taken; an error leaves a beginning of its bytes, and what isn't told stays so
 abbrev pub Puts : {T E : Type 0} → Option (List ℕ) → Option (List ℕ) → Result T E → List ℕ → Type 0

@@ -1,11 +1,12 @@
--- What stands over std's readers and writers: the reader or the writer, and a count of its faults.
+-- What stands over std's readers and writers: the reader or the writer, and what is counted of it.
 use Rattle.std.specs.Prelude.{ℕ, Bool, List, take, Option, Result, MatchResult}
 use Rattle.std.specs.Io.KnownBytes.{Appends}
 
--- an input: its reader, how often that failed, and whether its last read did
+-- an input: its reader, how often that failed, how often it gave its end, and whether its last read failed
 pub record StdInput (R : Type 0) : Type 0 where
   pub reader : R
   pub faults : ℕ
+  pub ends : ℕ
   pub failed_last : Bool
 
 -- an output: its writer, and how often that failed

@@ -2,7 +2,7 @@ ghost use Rattle.std.specs.Prelude.{◌≡◌, ◌≤◌, ◌<◌, ◌+◌, ℕ,
 ghost use Rattle.std.specs.List.{All};
 ghost use Rattle.std.specs.Io.{ReadsAtMost};
 ghost use Rattle.plasma_base.specs.Causes.{faults_after};
-ghost use Rattle.plasma_outside.specs.Outside.{Takes, Puts, is_failed};
+ghost use Rattle.plasma_outside.specs.Outside.{Takes, Puts, ends_after, is_failed};
 ghost use Rattle.plasma_outside.specs.Memory.{is_to_fail, bytes_given, after_take, after_put};
 
 use super::sink::{Sink, SinkRefusal};
@@ -37,6 +37,7 @@ pub struct MemSource {
     fails: Vec<u64>,
     calls: u64,
     faults: u64,
+    ends: u64,
     failed_last: bool,
 }
 
@@ -53,6 +54,7 @@ impl Model for MemSource {
       fails = s.fails.items;
       calls = s.calls;
       faults = s.faults;
+      ends = s.ends;
       failed_last = s.failed_last;
     } };
 
@@ -71,6 +73,7 @@ impl MemSource {
           fails = fails.items;
           calls = 0;
           faults = 0;
+          ends = 0;
           failed_last = false;
         } }
     {
@@ -81,6 +84,7 @@ impl MemSource {
             fails,
             calls: 0,
             faults: 0,
+            ends: 0,
             failed_last: false,
         }
     }
@@ -91,6 +95,8 @@ impl Source for MemSource {
 
     ghost faults = { λ input. input.faults };
 
+    ghost ends = { λ input. input.ends };
+
     ghost failed_last = { λ input. input.failed_last };
 
     fn take(&mut self, room: &mut [u8]) -> Result<usize, SourceFailed>
@@ -98,6 +104,7 @@ impl Source for MemSource {
         ensures bound { ReadsAtMost result room.new }
         ensures bytes { Takes (Some self.old.bytes) (Some self.new.bytes) result room.new }
         ensures cause { self.new.faults ≡ faults_after self.old.faults (is_err result) }
+        ensures end { self.new.ends ≡ ends_after self.old.ends result }
         ensures last { self.new.failed_last ≡ is_err result }
         ensures fails { is_err result ≡ is_to_fail self.old.fails self.old.calls }
         ensures count { IfOk result (λ n. n ≡ bytes_given self.old (length room.old)) }
@@ -115,6 +122,9 @@ impl Source for MemSource {
         let count = piece.min(room.len().min(rest.len()));
         room[..count].copy_from_slice(&rest[..count]);
         self.place += count;
+        if count == 0 {
+            self.ends = self.ends.saturating_add(1);
+        }
         Ok(count)
     }
 }

@@ -1,7 +1,7 @@
 ghost use Rattle.std.specs.Prelude.{◌≡◌, ◌<◌, ℕ, Bool, List, length, Option, is_err};
 ghost use Rattle.std.specs.Io.{ReadsAtMost};
 ghost use Rattle.plasma_base.specs.Causes.{faults_after};
-ghost use Rattle.plasma_outside.specs.Outside.{Takes};
+ghost use Rattle.plasma_outside.specs.Outside.{Takes, ends_after};
 
 use thiserror::Error;
 
@@ -18,6 +18,9 @@ pub trait Source {
     /// How often the source has failed; it stops at `u64::MAX`.
     ghost faults: { Self → ℕ };
 
+    /// How many takes gave the end of the input; it stops at `u64::MAX`.
+    ghost ends: { Self → ℕ };
+
     /// Whether the last take failed.
     ghost failed_last: { Self → Bool };
 
@@ -29,5 +32,6 @@ pub trait Source {
         ensures bound { ReadsAtMost result room.new }
         ensures bytes { Takes (left self.old) (left self.new) result room.new }
         ensures cause { faults self.new ≡ faults_after (faults self.old) (is_err result) }
+        ensures end { ends self.new ≡ ends_after (ends self.old) result }
         ensures last { failed_last self.new ≡ is_err result };
 }

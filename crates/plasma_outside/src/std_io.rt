@@ -2,7 +2,7 @@ ghost use Rattle.std.specs.Prelude.{◌≡◌, ◌≢◌, ◌<◌, false, length
 ghost use Rattle.std.specs.Io.{ReadsAtMost};
 ghost use Rattle.std.specs.Io.KnownBytes.{ReadConsumes};
 ghost use Rattle.plasma_base.specs.Causes.{faults_after};
-ghost use Rattle.plasma_outside.specs.Outside.{Takes, Puts, is_failed};
+ghost use Rattle.plasma_outside.specs.Outside.{Takes, Puts, ends_after, is_failed};
 ghost use Rattle.plasma_outside.specs.Standard.{Writes};
 
 use super::sink::{Sink, SinkRefusal};
@@ -10,13 +10,14 @@ use super::source::{Source, SourceFailed};
 use std::io::{self, ErrorKind, Read, Write};
 use std::marker::Model;
 
-/// A source over any reader of std, which contracts see as its reader, its count of faults and
-/// whether its last read failed. As a source it tells nothing of its content. A read that was
-/// interrupted counts as a fault too.
+/// A source over any reader of std, which contracts see as its reader, its counts of faults and of
+/// ends, and whether its last read failed. As a source it tells nothing of its content. A read that
+/// was interrupted counts as a fault too.
 #[derive(Drop)]
 pub struct StdSource<R> {
     reader: R,
     faults: u64,
+    ends: u64,
     failed_last: bool,
 }
 
@@ -25,17 +26,18 @@ impl<R> Model for StdSource<R> {
 
     ghost Value = { StdInput R };
 
-    ghost view = { λ s. record { reader = s.reader; faults = s.faults; failed_last = s.failed_last } };
+    ghost view = { λ s. record { reader = s.reader; faults = s.faults; ends = s.ends; failed_last = s.failed_last } };
 }
 
 impl<R: Read> StdSource<R> {
-    /// A source that hasn't failed yet.
+    /// A source that hasn't failed yet, nor given its end.
     pub fn make(reader: R) -> StdSource<R>
-        ensures { result ≡ record { reader = reader; faults = 0; failed_last = false } }
+        ensures { result ≡ record { reader = reader; faults = 0; ends = 0; failed_last = false } }
     {
         StdSource {
             reader,
             faults: 0,
+            ends: 0,
             failed_last: false,
         }
     }
@@ -46,6 +48,8 @@ impl<R: Read> Source for StdSource<R> {
 
     ghost faults = { λ input. input.faults };
 
+    ghost ends = { λ input. input.ends };
+
     ghost failed_last = { λ input. input.failed_last };
 
     fn take(&mut self, room: &mut [u8]) -> Result<usize, SourceFailed>
@@ -53,12 +57,16 @@ impl<R: Read> Source for StdSource<R> {
         ensures bound { ReadsAtMost result room.new }
         ensures bytes { Takes None None result room.new }
         ensures cause { self.new.faults ≡ faults_after self.old.faults (is_err result) }
+        ensures end { self.new.ends ≡ ends_after self.old.ends result }
         ensures last { self.new.failed_last ≡ is_err result }
         ensures reader { ReadConsumes (R.remaining self.old.reader) (R.remaining self.new.reader) result room.new }
     {
         match self.reader.read(room) {
             Ok(count) => {
                 self.failed_last = false;
+                if count == 0 {
+                    self.ends = self.ends.saturating_add(1);
+                }
                 Ok(count)
             }
             Err(_) => {

@@ -1,12 +1,12 @@
 ghost use Rattle.std.specs.Prelude.{◌≡◌, ◌≤◌, ◌<◌, ◌+◌, ◌++◌, ℕ, List, [], length, take, Ok, Err, true, false, is_err, IfOk, OnOk, OnErr, IfErr};
-ghost use Rattle.plasma_base.specs.Causes.{faults_after};
+ghost use Rattle.plasma_base.specs.Causes.{counted, faults_after};
 ghost use Rattle.plasma_outside.specs.declared.sink.SinkRefusal.{SinkRefusal};
-ghost use Rattle.plasma_outside.specs.Outside.{is_failed};
+ghost use Rattle.plasma_outside.specs.Outside.{ends_after, is_failed};
 ghost use Rattle.streamed_lines.specs.declared.ending.Ending.{Ending};
 ghost use Rattle.streamed_lines.specs.Lines.{limit_of};
 ghost use Rattle.streamed_lines.specs.Streams.{Stream, next_number, end_of_input};
 ghost use Rattle.streamed_lines.specs.Bounds.{room};
-ghost use Rattle.streamed_lines.specs.Outside.{Gave, GaveAll, Wrote, WroteFront, ReadsToFault};
+ghost use Rattle.streamed_lines.specs.Outside.{Gave, GaveAll, Wrote, WroteFront, ReadsToFault, ReadsToEnd};
 ghost use Rattle.streamed_lines.specs.Prompt.{AnswersPromptly, answers_so_far};
 ghost use Rattle.streamed_lines.specs.Reading.{IsKept, Reads, Answers, BrokeOff, EndsAs, BreaksOff, HaltsWith, is_read_fault, is_write_fault};
 
@@ -45,6 +45,7 @@ fn take_some<S: Source>(source: &mut S, room: &mut [u8], size: usize) -> Result<
     ensures reads { ReadsToFault (S.faults source.old) (S.faults source.new) (S.failed_last source.new)
         (is_err result) }
     ensures last { S.failed_last source.new ≡ is_err result }
+    ensures end { S.ends source.new ≡ ends_after (S.ends source.old) result }
 {
     source.take(&mut room[..size])
 }
@@ -153,6 +154,9 @@ pub fn answer_lines<A: Answerer, S: Source, K: Sink>(
     ensures reads { ReadsToFault (S.faults source.old) (S.faults source.new) (S.failed_last source.new)
         (is_read_fault result) }
     ensures last { S.failed_last source.new ≡ is_read_fault result }
+    ensures end { ReadsToEnd (S.ends source.old) (S.ends source.new) }
+    ensures whole { result ≡ Ok Ending.Complete → S.ends source.new ≡ counted (S.ends source.old) }
+    ensures unended { is_read_fault result ≡ true → S.ends source.new ≡ S.ends source.old }
     ensures put { IfOk result (λ ending. ending ≡ Ending.ReadFault → text.new.items ≡ []) }
     ensures cause { K.faults sink.new ≡ faults_after (K.faults sink.old) (is_write_fault result) }
     ensures rules { A.rules answerer.new ≡ A.rules answerer.old }

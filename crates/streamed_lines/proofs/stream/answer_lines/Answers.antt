@@ -1,4 +1,5 @@
 use Rattle.std.proofs.Common.{◌∙◌, [], refl, arith}
+use Rattle.std.proofs.lemmas.Grind.{common_steps}
 use Rattle.streamed_lines.specs.Reading.{break_of}
 use Rattle.streamed_lines.proofs.OutsideLaws.{gave-part, wrote-none}
 use Rattle.streamed_lines.proofs.StreamLaws.{err-given}
@@ -12,6 +13,7 @@ loop-answerer-init g c = record {
   rules = refl;
   ready = c.requires.1.1.1.1.1.0;
   unread = refl;
+  unended = refl;
   unsunk = refl;
 }
 
@@ -44,6 +46,7 @@ loop-answerer-preserved g c = record {
   rules = c.in-Ok-answer_taken.ensures.rules ∙ c.loop-answerer.invariant.rules;
   ready = c.in-Ok-answer_taken.ensures.ready;
   unread = c.in-Ok.ensures.reads.count ∙ c.loop-answerer.invariant.unread;
+  unended = grind (arith, common_steps, c.in-Ok.ensures.end, c.in-Ok.count-test, c.loop-answerer.invariant.unended);
   unsunk = c.in_ok-put_text-in-Ok-answer_taken.ensures.cause ∙ c.loop-answerer.invariant.unsunk;
 }
 

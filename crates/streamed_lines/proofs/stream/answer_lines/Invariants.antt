@@ -12,6 +12,7 @@ invariant-loop-answerer g l = record {
   rules : g.A.Answerer.rules l.answerer ≡ g.A.Answerer.rules l.fn.answerer;
   ready : g.A.Answerer.ready l.answerer;
   unread : g.S.Source.faults l.source ≡ g.S.Source.faults l.fn.source;
+  unended : g.S.Source.ends l.source ≡ g.S.Source.ends l.fn.source;
   unsunk : g.K.Sink.faults l.sink ≡ g.K.Sink.faults l.fn.sink;
 }
 
