@@ -1,6 +1,6 @@
 ghost use Rattle.std.specs.Prelude.{◌≡◌, true, false, Option, List, ℕ};
 ghost use Rattle.plasma_base.specs.Causes.{faults_after};
-ghost use Rattle.streamed_lines.specs.Outside.{ReadsToFault};
+ghost use Rattle.streamed_lines.specs.Outside.{ReadsToFault, ReadsToEnd};
 ghost use Rattle.streamed_lines.specs.Prompt.{AnswersPromptly, answers_so_far};
 ghost use Rattle.run_endings.specs.Statuses.{is_write_fault, ReadsBy};
 ghost use Rattle.log_runs.specs.Following.{begun, log_rules};
@@ -101,6 +101,7 @@ pub fn run_archive<H: Hash32 + Copy, S: Source, K: Sink>(
         → ReadsToFault (S.faults source.old) (S.faults source.new) (S.failed_last source.new) false }
     ensures source_faults { ReadsBy result
         (ReadsToFault (S.faults source.old) (S.faults source.new) (S.failed_last source.new)) }
+    ensures source_end { ReadsToEnd (S.ends source.old) (S.ends source.new) }
     ensures sink_faults { K.faults sink.new ≡ faults_after (K.faults sink.old) (is_write_fault result) }
 {
     run_log(alloc, Archivist { h }, source, sink)

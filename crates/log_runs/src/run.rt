@@ -1,7 +1,7 @@
 ghost use Rattle.std.specs.Prelude.{◌≡◌, true, false, Err, Option, List, ℕ};
 ghost use Rattle.plasma_base.specs.Causes.{faults_after};
 ghost use Rattle.plasma_outside.specs.Outside.{is_failed};
-ghost use Rattle.streamed_lines.specs.Outside.{ReadsToFault};
+ghost use Rattle.streamed_lines.specs.Outside.{ReadsToFault, ReadsToEnd};
 ghost use Rattle.streamed_lines.specs.Prompt.{AnswersPromptly, answers_so_far};
 ghost use Rattle.run_endings.specs.Statuses.{is_write_fault, ReadsBy};
 ghost use Rattle.log_runs.specs.Following.{begun, log_rules};
@@ -32,6 +32,7 @@ fn answer_log<F: Follower + Drop, S: Source, K: Sink>(
         (S.left source.old) (S.left source.new) (S.failed_last source.new) (K.taken sink.old) (K.taken sink.new) }
     ensures reads { ReadsBy (status_of_run result)
         (ReadsToFault (S.faults source.old) (S.faults source.new) (S.failed_last source.new)) }
+    ensures end { ReadsToEnd (S.ends source.old) (S.ends source.new) }
     ensures source_memory { K.takes_memory ≡ false → result ≡ Err SinkRefusal.NoMemory
         → ReadsToFault (S.faults source.old) (S.faults source.new) (S.failed_last source.new) false }
     ensures cause { K.faults sink.new ≡ faults_after (K.faults sink.old) (is_failed result) }
@@ -68,6 +69,7 @@ pub fn run_log<F: Follower + Drop, S: Source, K: Sink>(
         → ReadsToFault (S.faults source.old) (S.faults source.new) (S.failed_last source.new) false }
     ensures source_faults { ReadsBy result
         (ReadsToFault (S.faults source.old) (S.faults source.new) (S.failed_last source.new)) }
+    ensures source_end { ReadsToEnd (S.ends source.old) (S.ends source.new) }
     ensures sink_faults { K.faults sink.new ≡ faults_after (K.faults sink.old) (is_write_fault result) }
 {
     match answer_log(alloc, follower, source, sink) {
