@@ -3,7 +3,7 @@ ghost use Rattle.plasma_base.specs.Causes.{faults_after};
 ghost use Rattle.crash_disk.specs.Calls.{WhereTold};
 ghost use Rattle.gate_journal.specs.Journal.{IsSettled};
 ghost use Rattle.operator_rules.specs.Records.{who_is};
-ghost use Rattle.streamed_lines.specs.Outside.{ReadsToFault};
+ghost use Rattle.streamed_lines.specs.Outside.{ReadsToFault, ReadsToEnd};
 ghost use Rattle.run_endings.specs.Statuses.{is_write_fault, ReadsBy};
 ghost use Rattle.run_endings.specs.Faults.{CountsEither};
 ghost use Rattle.node_runs.specs.Operators.{RunsBehind, RunsOperator};
@@ -61,6 +61,7 @@ pub fn run_operator<D: Disk, H: Hash32 + Copy, S: Source, K: Sink>(
         (S.failed_last source.new) D.told D.plan D.faults (H.digest_of h) notes leaves }
     ensures source_faults { ReadsBy result.2
         (ReadsToFault (S.faults source.old) (S.faults source.new) (S.failed_last source.new)) }
+    ensures source_end { ReadsToEnd (S.ends source.old) (S.ends source.new) }
     ensures sink_faults { K.faults sink.new ≡ faults_after (K.faults sink.old) (is_write_fault result.2) }
 {
     match Operator::open_with(alloc, notes, h) {
@@ -115,6 +116,7 @@ fn run_with_key<D: Disk, H: Hash32 + Copy, S: Source, K: Sink>(
         (S.failed_last source.new) D.told D.plan D.faults (H.digest_of h) (Some seed) node.notes leaves }
     ensures source_faults { ReadsBy result.2
         (ReadsToFault (S.faults source.old) (S.faults source.new) (S.failed_last source.new)) }
+    ensures source_end { ReadsToEnd (S.ends source.old) (S.ends source.new) }
     ensures sink_faults { K.faults sink.new ≡ faults_after (K.faults sink.old) (is_write_fault result.2) }
 {
     let Ok(key) = desk_key(alloc, seed) else {

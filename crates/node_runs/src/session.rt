@@ -1,7 +1,7 @@
 ghost use Rattle.std.specs.Prelude.{◌≡◌, true, false, List, ℕ};
 ghost use Rattle.plasma_base.specs.Causes.{faults_after};
 ghost use Rattle.node_journal.specs.declared.stop.Stop.{Stop};
-ghost use Rattle.streamed_lines.specs.Outside.{ReadsToFault};
+ghost use Rattle.streamed_lines.specs.Outside.{ReadsToFault, ReadsToEnd};
 ghost use Rattle.streamed_lines.specs.Prompt.{AnswersPromptly, answers_so_far};
 ghost use Rattle.node_sessions.specs.Sessions.{begun, session_rules};
 ghost use Rattle.run_endings.specs.Statuses.{is_write_fault, ReadsBy};
@@ -55,6 +55,7 @@ pub fn run_session<N: Commanded, S: Source, K: Sink>(
         (S.left source.old) (S.left source.new) (S.failed_last source.new) (K.taken sink.old) (K.taken sink.new) }
     ensures source_faults { ReadsBy result.1
         (ReadsToFault (S.faults source.old) (S.faults source.new) (S.failed_last source.new)) }
+    ensures source_end { ReadsToEnd (S.ends source.old) (S.ends source.new) }
     ensures sink_faults { K.faults sink.new ≡ faults_after (K.faults sink.old) (is_write_fault result.1) }
 {
     let mut session = Session::new(alloc, node);

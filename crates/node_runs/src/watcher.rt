@@ -1,6 +1,6 @@
 ghost use Rattle.std.specs.Prelude.{◌≡◌, true, false, Option, List, ℕ};
 ghost use Rattle.plasma_base.specs.Causes.{faults_after};
-ghost use Rattle.streamed_lines.specs.Outside.{ReadsToFault};
+ghost use Rattle.streamed_lines.specs.Outside.{ReadsToFault, ReadsToEnd};
 ghost use Rattle.run_endings.specs.Statuses.{is_write_fault, ReadsBy};
 ghost use Rattle.run_endings.specs.Faults.{Counts};
 ghost use Rattle.node_runs.specs.Runs.{RunsWatcher};
@@ -54,6 +54,7 @@ pub fn run_watcher<D: Disk, H: Hash32 + Copy, S: Source, K: Sink>(
         (S.failed_last source.new) D.told D.plan D.faults (H.digest_of h) notes }
     ensures source_faults { ReadsBy result.1
         (ReadsToFault (S.faults source.old) (S.faults source.new) (S.failed_last source.new)) }
+    ensures source_end { ReadsToEnd (S.ends source.old) (S.ends source.new) }
     ensures sink_faults { K.faults sink.new ≡ faults_after (K.faults sink.old) (is_write_fault result.1) }
 {
     match WatcherNode::open_with(alloc, notes, h) {
