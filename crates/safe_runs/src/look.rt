@@ -1,7 +1,7 @@
 ghost use Rattle.std.specs.Prelude.{◌≡◌, ◌++◌, true, false, List, ℕ, IfOk, OnOk};
 ghost use Rattle.plasma_base.specs.Causes.{faults_after};
 ghost use Rattle.gate_journal.specs.declared.refusal.JournalRefusal.{JournalRefusal};
-ghost use Rattle.streamed_lines.specs.Outside.{ReadsToFault};
+ghost use Rattle.streamed_lines.specs.Outside.{ReadsToFault, ReadsToEnd};
 ghost use Rattle.streamed_lines.specs.declared.ending.Ending.{Ending};
 ghost use Rattle.run_endings.specs.Statuses.{is_write_fault, ReadsBy};
 ghost use Rattle.run_endings.specs.Outputs.{EndsAs};
@@ -38,6 +38,7 @@ pub fn run_look<N: Holder, S: Source, K: Sink>(
         (ReadsToFault (S.faults source.old) (S.faults source.new) (S.failed_last source.new) true) result }
     ensures source_faults { (at : Node) → N.is node.now at → ReadsBy result
         (ReadsToFault (S.faults source.old) (S.faults source.new) (S.failed_last source.new)) }
+    ensures source_end { ReadsToEnd (S.ends source.old) (S.ends source.new) }
     ensures source_memory { K.takes_memory ≡ false → result ≡ Status.NoMemory
         → ReadsToFault (S.faults source.old) (S.faults source.new) (S.failed_last source.new) false }
     ensures sink_faults { K.faults sink.new ≡ faults_after (K.faults sink.old) (is_write_fault result) }

@@ -1,7 +1,7 @@
 ghost use Rattle.std.specs.Prelude.{◌≡◌, ◌⊎◌, true, false, map, string_bytes, Ok, IfOk, IfErr};
 ghost use Rattle.sha2.specs.Sha256.{sha256};
 ghost use Rattle.plasma_base.specs.Causes.{faults_after};
-ghost use Rattle.streamed_lines.specs.Outside.{ReadsToFault};
+ghost use Rattle.streamed_lines.specs.Outside.{ReadsToFault, ReadsToEnd};
 ghost use Rattle.gate_journal.specs.Journal.{is_fault};
 ghost use Rattle.run_endings.specs.Statuses.{is_write_fault, FaultsBy, ReadsBy};
 ghost use Rattle.safe_runs.specs.Complete.{CompletesBy};
@@ -72,6 +72,7 @@ pub fn run<S: Source, K: Sink, D: Disk>(
         → ReadsToFault (S.faults source.old) (S.faults source.new) (S.failed_last source.new) false }
     ensures source_faults { ReadsBy result.status
         (ReadsToFault (S.faults source.old) (S.faults source.new) (S.failed_last source.new)) }
+    ensures source_end { ReadsToEnd (S.ends source.old) (S.ends source.new) }
     ensures disk_faults { FaultsBy result.status (CountsEither D.faults notes leaves result.notes result.leaves) }
     ensures sink_faults { K.faults sink.new ≡ faults_after (K.faults sink.old) (is_write_fault result.status) }
 {
@@ -113,6 +114,7 @@ pub fn run_with<H: Hash32, S: Source, K: Sink, D: Disk>(
         → ReadsToFault (S.faults source.old) (S.faults source.new) (S.failed_last source.new) false }
     ensures source_faults { ReadsBy result.status
         (ReadsToFault (S.faults source.old) (S.faults source.new) (S.failed_last source.new)) }
+    ensures source_end { ReadsToEnd (S.ends source.old) (S.ends source.new) }
     ensures disk_faults { FaultsBy result.status (CountsEither D.faults notes leaves result.notes result.leaves) }
     ensures sink_faults { K.faults sink.new ≡ faults_after (K.faults sink.old) (is_write_fault result.status) }
 {
@@ -145,6 +147,7 @@ fn run_role<H: Hash32, S: Source, K: Sink, D: Disk>(
         → ReadsToFault (S.faults source.old) (S.faults source.new) (S.failed_last source.new) false }
     ensures source_faults { ReadsBy result.status
         (ReadsToFault (S.faults source.old) (S.faults source.new) (S.failed_last source.new)) }
+    ensures source_end { ReadsToEnd (S.ends source.old) (S.ends source.new) }
     ensures disk_faults { FaultsBy result.status (CountsEither D.faults notes leaves result.notes result.leaves) }
     ensures sink_faults { K.faults sink.new ≡ faults_after (K.faults sink.old) (is_write_fault result.status) }
 {
@@ -198,6 +201,7 @@ fn run_watcher<H: Hash32 + Copy, S: Source, K: Sink, D: Disk>(
         → ReadsToFault (S.faults source.old) (S.faults source.new) (S.failed_last source.new) false }
     ensures source_faults { ReadsBy result
         (ReadsToFault (S.faults source.old) (S.faults source.new) (S.failed_last source.new)) }
+    ensures source_end { ReadsToEnd (S.ends source.old) (S.ends source.new) }
     ensures disk_faults { FaultsBy result (Counts D.faults notes.old notes.new) }
     ensures sink_faults { K.faults sink.new ≡ faults_after (K.faults sink.old) (is_write_fault result) }
 {
@@ -250,6 +254,7 @@ fn run_wallet<H: Hash32 + Copy, S: Source, K: Sink, D: Disk>(
         → ReadsToFault (S.faults source.old) (S.faults source.new) (S.failed_last source.new) false }
     ensures source_faults { ReadsBy result
         (ReadsToFault (S.faults source.old) (S.faults source.new) (S.failed_last source.new)) }
+    ensures source_end { ReadsToEnd (S.ends source.old) (S.ends source.new) }
     ensures disk_faults { FaultsBy result (CountsEither D.faults notes.old leaves.old notes.new leaves.new) }
     ensures sink_faults { K.faults sink.new ≡ faults_after (K.faults sink.old) (is_write_fault result) }
 {
