@@ -3,7 +3,7 @@ ghost use Rattle.plasma_base.specs.Causes.{faults_after};
 ghost use Rattle.plasma_outside.specs.Outside.{is_failed};
 ghost use Rattle.schedule_text.specs.Grammar.{IsLine, line_in};
 ghost use Rattle.streamed_lines.specs.declared.ending.Ending.{Ending};
-ghost use Rattle.streamed_lines.specs.Outside.{ReadsToFault};
+ghost use Rattle.streamed_lines.specs.Outside.{ReadsToFault, ReadsToEnd};
 ghost use Rattle.streamed_lines.specs.Reading.{is_read_fault};
 ghost use Rattle.streamed_lines.specs.Prompt.{AnswersPromptly};
 ghost use Rattle.replay_run.specs.Prompt.{replay_answers};
@@ -115,6 +115,7 @@ pub fn answer_schedule<H: Hash32 + Copy, S: Source, K: Sink>(
         (S.failed_last source.new) (is_read_fault (Ok done.1))) }
     ensures no_fault { OnErr result (ReadsToFault (S.faults source.old) (S.faults source.new)
         (S.failed_last source.new) false) }
+    ensures end { ReadsToEnd (S.ends source.old) (S.ends source.new) }
     ensures last { IfOk result (λ done. S.failed_last source.new ≡ is_read_fault (Ok done.1)) }
     ensures put { IfOk result (λ done. done.1 ≡ Ending.ReadFault → text.new.items ≡ []) }
     ensures cause { K.faults sink.new ≡ faults_after (K.faults sink.old) (is_failed result) }

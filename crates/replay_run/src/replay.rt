@@ -4,7 +4,7 @@ ghost use Rattle.plasma_base.specs.Causes.{faults_after};
 ghost use Rattle.plasma_outside.specs.Outside.{is_failed};
 ghost use Rattle.world_rules.specs.Texts.{verdict_text};
 ghost use Rattle.streamed_lines.specs.declared.ending.Ending.{Ending};
-ghost use Rattle.streamed_lines.specs.Outside.{ReadsToFault};
+ghost use Rattle.streamed_lines.specs.Outside.{ReadsToFault, ReadsToEnd};
 ghost use Rattle.streamed_lines.specs.Prompt.{AnswersPromptly};
 ghost use Rattle.run_endings.specs.Statuses.{ReadsBy};
 ghost use Rattle.replay_run.specs.Replays.{JudgedRun};
@@ -76,6 +76,7 @@ pub fn replay<H: Hash32 + Copy, S: Source, K: Sink>(
         (S.failed_last source.new) (K.taken sink.old) (K.taken sink.new) }
     ensures reads { ReadsBy (status_of_replay result)
         (ReadsToFault (S.faults source.old) (S.faults source.new) (S.failed_last source.new)) }
+    ensures end { ReadsToEnd (S.ends source.old) (S.ends source.new) }
     ensures cause { K.faults sink.new ≡ faults_after (K.faults sink.old) (is_failed result) }
 {
     let mut text = Vec::new(alloc);

@@ -1,7 +1,7 @@
 ghost use Rattle.std.specs.Prelude.{◌≡◌, ◌≢◌, ◌≤◌, true, false, map, string_bytes, ℕ, Bool, List, Option};
 ghost use Rattle.sha2.specs.Sha256.{sha256};
 ghost use Rattle.plasma_base.specs.Causes.{faults_after};
-ghost use Rattle.streamed_lines.specs.Outside.{ReadsToFault};
+ghost use Rattle.streamed_lines.specs.Outside.{ReadsToFault, ReadsToEnd};
 ghost use Rattle.run_words.specs.Forms.{form_of, IsSound};
 ghost use Rattle.run_endings.specs.Statuses.{is_write_fault, ReadsBy, FaultsBy};
 ghost use Rattle.run_endings.specs.Outputs.{EndsAs};
@@ -149,6 +149,9 @@ pub fn run<S: Source, K: Sink, D: Disk>(
     ensures source_faults { ReadsBy result.status
         (ReadsToFault (S.faults source.old) (S.faults source.new) (S.failed_last source.new)) }
 
+    // The end of the input is met at most once. A source may give it at any take, so nothing is taken behind it.
+    ensures source_end { ReadsToEnd (S.ends source.old) (S.ends source.new) }
+
     // A fault of a node's disk is answered, unless the text isn't written to the end, and comes for no other cause.
     ensures disk_faults { FaultsBy result.status (CountsEither D.faults notes leaves result.notes result.leaves) }
 
@@ -210,6 +213,7 @@ pub fn run_with<H: Hash32, S: Source, K: Sink, D: Disk>(
     ensures leaves_stay { uses_leaves (form_of (map string_bytes words.now)) ≡ false → result.leaves ≡ leaves }
     ensures source_faults { ReadsBy result.status
         (ReadsToFault (S.faults source.old) (S.faults source.new) (S.failed_last source.new)) }
+    ensures source_end { ReadsToEnd (S.ends source.old) (S.ends source.new) }
     ensures disk_faults { FaultsBy result.status (CountsEither D.faults notes leaves result.notes result.leaves) }
     ensures memory { K.takes_memory ≡ false → result.status ≡ Status.NoMemory
         → CountsEither D.faults notes leaves result.notes result.leaves false }
@@ -260,6 +264,7 @@ fn run_form<H: Hash32, S: Source, K: Sink, D: Disk>(
     ensures leaves_stay { uses_leaves form ≡ false → result.leaves ≡ leaves }
     ensures source_faults { ReadsBy result.status
         (ReadsToFault (S.faults source.old) (S.faults source.new) (S.failed_last source.new)) }
+    ensures source_end { ReadsToEnd (S.ends source.old) (S.ends source.new) }
     ensures memory { K.takes_memory ≡ false → result.status ≡ Status.NoMemory
         → CountsEither D.faults notes leaves result.notes result.leaves false }
     ensures source_memory { reads_schedule form ≡ false → K.takes_memory ≡ false → result.status ≡ Status.NoMemory
