@@ -1,7 +1,8 @@
 -- The lines of a node's run: the commands of a wallet, of a watcher and of the operator, the one spelling of each, and
 -- the command that bytes spell.
-use Rattle.std.specs.Prelude.{ℕ, List, map, codes, Option, option_map}
-use Rattle.line_forms.specs.Forms.{Kind, Form, named, Table, Parts, of, ends, ◌▸◌, AreParts, text_of, value_in}
+use Rattle.std.specs.Prelude.{ℕ, Bool, true, false, List, map, codes, Option, option_map}
+use Rattle.line_forms.specs.Forms.{Kind, Form, named, Table, Parts, of, ends, ◌▸◌, AreParts, begins_as, text_of, value_in}
+use Rattle.line_forms.specs.Words.{words_of}
 use Rattle.line_forms.specs.Tokens.{AreBytes, number, hex, hex_of, optional_number}
 use Rattle.line_forms.specs.declared.tokens.TheConstants.{OWNER_BYTES}
 use Rattle.plasma_tx.specs.declared.owner.Owner.{Owner}
@@ -80,6 +81,17 @@ wallet_line_text line = text_of wallet_lines (wallet_parts line)
 unfoldable pub wallet_line_in : List ℕ → Option WalletLine
 wallet_line_in bytes = value_in wallet_lines bytes
 
+-- whether a command with this first word has bytes, which take memory
+abbrev pub wallet_has_bytes : WalletLineName → Bool
+wallet_has_bytes WalletLineName.Accept = true
+wallet_has_bytes WalletLineName.Send = true
+wallet_has_bytes WalletLineName.Reclaim = true
+wallet_has_bytes _ = false
+
+-- whether the first word of a line begins a command that has bytes
+abbrev pub wallet_begins_with_bytes : List ℕ → Bool
+wallet_begins_with_bytes bytes = begins_as wallet_lines wallet_has_bytes (words_of bytes)
+
 -- ---- commands of a watcher
 
 -- each command: its first word, and the kinds of its tokens
@@ -109,6 +121,15 @@ watcher_line_text line = text_of watcher_lines (watcher_parts line)
 -- the command that bytes spell, if they spell one
 unfoldable pub watcher_line_in : List ℕ → Option WatcherOrder
 watcher_line_in bytes = value_in watcher_lines bytes
+
+-- whether a command with this first word has bytes, which take memory
+abbrev pub watcher_has_bytes : WatcherLineName → Bool
+watcher_has_bytes WatcherLineName.Guard = true
+watcher_has_bytes _ = false
+
+-- whether the first word of a line begins a command that has bytes
+abbrev pub watcher_begins_with_bytes : List ℕ → Bool
+watcher_begins_with_bytes bytes = begins_as watcher_lines watcher_has_bytes (words_of bytes)
 
 -- ---- commands of the operator
 
@@ -158,3 +179,14 @@ operator_line_text line = text_of operator_lines (operator_parts line)
 -- the command that bytes spell, if they spell one
 unfoldable pub operator_line_in : List ℕ → Option OperatorLine
 operator_line_in bytes = value_in operator_lines bytes
+
+-- whether a command with this first word has bytes, which take memory
+abbrev pub operator_has_bytes : OperatorLineName → Bool
+operator_has_bytes OperatorLineName.Offer = true
+operator_has_bytes OperatorLineName.Lay = true
+operator_has_bytes OperatorLineName.Receipt = true
+operator_has_bytes _ = false
+
+-- whether the first word of a line begins a command that has bytes
+abbrev pub operator_begins_with_bytes : List ℕ → Bool
+operator_begins_with_bytes bytes = begins_as operator_lines operator_has_bytes (words_of bytes)

@@ -1,6 +1,6 @@
-ghost use Rattle.std.specs.Prelude.{◌≡◌, Some, None, Err, IfOk};
+ghost use Rattle.std.specs.Prelude.{◌≡◌, true, Some, None, Err, IfOk};
 ghost use Rattle.line_forms.specs.Forms.{takes};
-ghost use Rattle.node_lines.specs.Grammar.{operator_form, operator_line_in, IsOperatorLine};
+ghost use Rattle.node_lines.specs.Grammar.{operator_form, operator_has_bytes, operator_line_in, operator_begins_with_bytes, IsOperatorLine};
 
 use line_forms::{LineRefusal, Words, named};
 use node_replies::OperatorOrder;
@@ -60,6 +60,7 @@ fn operator_line_of(
 ) -> Result<OperatorLine, LineRefusal>
     ensures found { IfOk result (λ line. takes (operator_form name) words.old ≡ Some (line, words.new)) }
     ensures bad { result ≡ Err LineRefusal.BadLine → takes (operator_form name) words.old ≡ None }
+    ensures memory { result ≡ Err LineRefusal.NoMemory → operator_has_bytes name ≡ true }
 {
     match name {
         OperatorLineName::Offer => Ok(of_order(OperatorOrder::Offer {
@@ -92,11 +93,12 @@ fn operator_line_of(
 }
 
 /// The operator's command that a line spells, without a line feed. It refuses `BadLine` exactly where
-/// it spells none.
+/// it spells none, and takes memory only where its first word begins a command that has bytes.
 #[tactic(auto, unfolding(crate::specs::Grammar::operator_line_in, line_forms::specs::Forms::value_in))]
 pub fn read_operator_line(alloc: Global, line: &[u8]) -> Result<OperatorLine, LineRefusal>
     ensures found { IfOk result (λ it. operator_line_in line.now ≡ Some it) }
     ensures bad { result ≡ Err LineRefusal.BadLine → operator_line_in line.now ≡ None }
+    ensures memory { result ≡ Err LineRefusal.NoMemory → operator_begins_with_bytes line.now ≡ true }
     ensures grammar { IfOk result IsOperatorLine }
 {
     let mut words = Words::of(line);

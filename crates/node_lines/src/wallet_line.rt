@@ -1,6 +1,6 @@
-ghost use Rattle.std.specs.Prelude.{◌≡◌, Some, None, Err, IfOk};
+ghost use Rattle.std.specs.Prelude.{◌≡◌, true, Some, None, Err, IfOk};
 ghost use Rattle.line_forms.specs.Forms.{takes};
-ghost use Rattle.node_lines.specs.Grammar.{wallet_form, wallet_line_in, IsWalletLine};
+ghost use Rattle.node_lines.specs.Grammar.{wallet_form, wallet_has_bytes, wallet_line_in, wallet_begins_with_bytes, IsWalletLine};
 
 use super::owner_word::take_owner;
 use line_forms::{LineRefusal, Words, named};
@@ -61,6 +61,7 @@ fn wallet_line_of(
 ) -> Result<WalletLine, LineRefusal>
     ensures found { IfOk result (λ line. takes (wallet_form name) words.old ≡ Some (line, words.new)) }
     ensures bad { result ≡ Err LineRefusal.BadLine → takes (wallet_form name) words.old ≡ None }
+    ensures memory { result ≡ Err LineRefusal.NoMemory → wallet_has_bytes name ≡ true }
 {
     match name {
         WalletLineName::Accept => Ok(of_order(WalletOrder::Accept {
@@ -90,11 +91,12 @@ fn wallet_line_of(
 }
 
 /// The wallet's command that a line spells, without a line feed. It refuses `BadLine` exactly where it
-/// spells none.
+/// spells none, and takes memory only where its first word begins a command that has bytes.
 #[tactic(auto, unfolding(crate::specs::Grammar::wallet_line_in, line_forms::specs::Forms::value_in))]
 pub fn read_wallet_line(alloc: Global, line: &[u8]) -> Result<WalletLine, LineRefusal>
     ensures found { IfOk result (λ it. wallet_line_in line.now ≡ Some it) }
     ensures bad { result ≡ Err LineRefusal.BadLine → wallet_line_in line.now ≡ None }
+    ensures memory { result ≡ Err LineRefusal.NoMemory → wallet_begins_with_bytes line.now ≡ true }
     ensures grammar { IfOk result IsWalletLine }
 {
     let mut words = Words::of(line);

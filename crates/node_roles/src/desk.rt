@@ -19,7 +19,7 @@ impl<D: Disk, H: Hash32 + Copy> Commanded for DeskRun<D, H> {
     ghost use Rattle.std.specs.Prelude.{◌≡◌, false, ◌&&◌};
     ghost use Rattle.lms_sign.specs.Tree.{public_key_of};
     ghost use Rattle.operator_rules.specs.Records.{who_is};
-    ghost use Rattle.node_lines.specs.Grammar.{operator_line_in};
+    ghost use Rattle.node_lines.specs.Grammar.{operator_line_in, operator_begins_with_bytes};
     ghost use Rattle.node_answers.specs.Desks.{secret_of};
     ghost use Rattle.node_roles.specs.Notes.{NotesAt};
     ghost use Rattle.node_journal.specs.Parts.{both};
@@ -33,6 +33,8 @@ impl<D: Disk, H: Hash32 + Copy> Commanded for DeskRun<D, H> {
     ghost tag = { λ run. (who_is run.keyed.node.notes.records).tag };
 
     ghost command_in = { λ _. operator_line_in };
+
+    ghost begins_with_bytes = { operator_begins_with_bytes };
 
     ghost does = { λ _. node_does desk_commands };
 

@@ -19,7 +19,7 @@ pub struct OperatorRun<D: Disk, H: Hash32 + Copy> {
 impl<D: Disk, H: Hash32 + Copy> Commanded for OperatorRun<D, H> {
     ghost use Rattle.std.specs.Prelude.{◌≡◌, false};
     ghost use Rattle.operator_rules.specs.Records.{who_is};
-    ghost use Rattle.node_lines.specs.Grammar.{operator_line_in};
+    ghost use Rattle.node_lines.specs.Grammar.{operator_line_in, operator_begins_with_bytes};
     ghost use Rattle.node_roles.specs.Notes.{NotesAt};
     ghost use Rattle.node_journal.specs.Parts.{alone};
     ghost use Rattle.node_roles.specs.Nodes.{NodeAt, outcome_at, node_does, IsNodeAt, StoppedAt};
@@ -32,6 +32,8 @@ impl<D: Disk, H: Hash32 + Copy> Commanded for OperatorRun<D, H> {
     ghost tag = { λ run. (who_is run.node.notes.records).tag };
 
     ghost command_in = { λ _. operator_line_in };
+
+    ghost begins_with_bytes = { operator_begins_with_bytes };
 
     ghost does = { λ _. node_does operator_commands };
 

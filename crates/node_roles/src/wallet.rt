@@ -19,7 +19,7 @@ pub struct WalletRun<D: Disk, H: Hash32 + Copy> {
 impl<D: Disk, H: Hash32 + Copy> Commanded for WalletRun<D, H> {
     ghost use Rattle.std.specs.Prelude.{◌≡◌, false};
     ghost use Rattle.node_rules.specs.Wallet.{who};
-    ghost use Rattle.node_lines.specs.Grammar.{wallet_line_in};
+    ghost use Rattle.node_lines.specs.Grammar.{wallet_line_in, wallet_begins_with_bytes};
     ghost use Rattle.node_roles.specs.Notes.{NotesAt};
     ghost use Rattle.node_roles.specs.Nodes.{NodeAt, outcome_at, node_does, IsNodeAt, StoppedAt};
     ghost use Rattle.node_roles.specs.Roles.{wallet_parts, wallet_commands};
@@ -31,6 +31,8 @@ impl<D: Disk, H: Hash32 + Copy> Commanded for WalletRun<D, H> {
     ghost tag = { λ run. (who run.node.records).tag };
 
     ghost command_in = { λ _. wallet_line_in };
+
+    ghost begins_with_bytes = { wallet_begins_with_bytes };
 
     ghost does = { λ _. node_does wallet_commands };
 

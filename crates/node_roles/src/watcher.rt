@@ -20,7 +20,7 @@ pub struct WatcherRun<D: Disk, H: Hash32 + Copy> {
 impl<D: Disk, H: Hash32 + Copy> Commanded for WatcherRun<D, H> {
     ghost use Rattle.std.specs.Prelude.{◌≡◌, false};
     ghost use Rattle.node_rules.specs.Watcher.{who_is};
-    ghost use Rattle.node_lines.specs.Grammar.{watcher_line_in};
+    ghost use Rattle.node_lines.specs.Grammar.{watcher_line_in, watcher_begins_with_bytes};
     ghost use Rattle.node_roles.specs.Notes.{NotesAt};
     ghost use Rattle.node_journal.specs.Parts.{alone};
     ghost use Rattle.node_roles.specs.Nodes.{NodeAt, outcome_at, node_does, IsNodeAt, StoppedAt};
@@ -33,6 +33,8 @@ impl<D: Disk, H: Hash32 + Copy> Commanded for WatcherRun<D, H> {
     ghost tag = { λ run. (who_is run.node.notes.records).tag };
 
     ghost command_in = { λ _. watcher_line_in };
+
+    ghost begins_with_bytes = { watcher_begins_with_bytes };
 
     ghost does = { λ _. node_does watcher_commands };
 

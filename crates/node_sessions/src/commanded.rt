@@ -1,4 +1,4 @@
-ghost use Rattle.std.specs.Prelude.{◌≡◌, ◌≢◌, List, ℕ, Some, None, Err, Option, Result, IfOk, IfErr, OnErr, OnOk};
+ghost use Rattle.std.specs.Prelude.{◌≡◌, ◌≢◌, List, ℕ, Bool, true, Some, None, Err, Option, Result, IfOk, IfErr, OnErr, OnOk};
 ghost use Rattle.plasma_tx.specs.declared.call.RootCall.{RootCall};
 ghost use Rattle.node_journal.specs.declared.stop.Stop.{Stop};
 ghost use Rattle.node_sessions.specs.Commands.{IsDone, IsUntold};
@@ -23,6 +23,9 @@ pub trait Commanded {
     /// The command that a line spells, if it spells one.
     ghost command_in: { Self → List ℕ → Option Self.Command };
 
+    /// Whether a line begins a command that may have bytes: only such a line takes memory to be read.
+    ghost begins_with_bytes: { List ℕ → Bool };
+
     /// What a command does behind a log: what the node comes to with it, and the text of its answer, or the cause for
     /// which it is refused.
     ghost does: { Self → List RootCall → At → Self.Command → Result (At × List ℕ) (List ℕ) };
@@ -43,7 +46,8 @@ pub trait Commanded {
     /// Reads a command.
     fn read(&self, alloc: Global, line: &[u8]) -> Result<Self::Command, LineRefusal>
         ensures found { IfOk result (λ command. command_in self.now line.now ≡ Some command) }
-        ensures bad { result ≡ Err LineRefusal.BadLine → command_in self.now line.now ≡ None };
+        ensures bad { result ≡ Err LineRefusal.BadLine → command_in self.now line.now ≡ None }
+        ensures memory { result ≡ Err LineRefusal.NoMemory → begins_with_bytes line.now ≡ true };
 
     /// Answers a command behind a log into the text. A refusal puts no text and changes nothing. Where the command is
     /// stopped the text stays.

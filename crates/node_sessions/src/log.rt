@@ -1,5 +1,5 @@
-ghost use Rattle.std.specs.Prelude.{◌≡◌, Ok, IfOk, IfErr, OnOk, OnErr};
-ghost use Rattle.root_log.specs.Grammar.{chain_in, appended};
+ghost use Rattle.std.specs.Prelude.{◌≡◌, ◌⊎◌, true, IsSome, Ok, Err, IfOk, IfErr, OnOk, OnErr};
+ghost use Rattle.root_log.specs.Grammar.{chain_in, appended, TakesMemory, begins_as_chain};
 ghost use Rattle.node_sessions.specs.Sessions.{other_chain, first_log, longer_log};
 ghost use Rattle.node_sessions.specs.Commands.{HaltsLog};
 
@@ -33,6 +33,7 @@ fn halt_of(refusal: LogRefusal) -> Halt<Bytes>
 pub fn first_log(alloc: Global, tag: &[u8; 32], line: &[u8]) -> Result<RootLog, Halt<Bytes>>
     ensures begun { IfOk result (λ log. first_log tag.now (chain_in line.now) ≡ Ok log) }
     ensures halts { IfErr result (HaltsLog (first_log tag.now (chain_in line.now))) }
+    ensures memory { result ≡ Err Halt.NoMemory → (begins_as_chain line.now ≡ true) ⊎ IsSome (chain_in line.now) }
 {
     let log = read_chain(alloc, line).map_err(halt_of)?;
     if log.tag() != *tag {
@@ -48,6 +49,7 @@ pub fn first_log(alloc: Global, tag: &[u8; 32], line: &[u8]) -> Result<RootLog, 
 pub fn read_call(alloc: Global, log: &mut RootLog, line: &[u8]) -> Result<(), Halt<Bytes>>
     ensures longer { OnOk result (longer_log (appended log.old line.now) ≡ Ok log.new) }
     ensures halts { IfErr result (HaltsLog (longer_log (appended log.old line.now))) }
+    ensures memory { result ≡ Err Halt.NoMemory → TakesMemory line.now }
     ensures same { OnErr result (log.new ≡ log.old) }
 {
     read_line(alloc, log, line).map_err(halt_of)

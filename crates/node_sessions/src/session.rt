@@ -74,7 +74,8 @@ impl<N: Commanded> Answerer for Session<N> {
 
     ghost ran = { IsSession N.is_at N.is_stopped };
 
-    ghost halted = { λ session. IsHaltedSession N.is_at N.is_stopped (N.command_in session.node) session };
+    ghost halted = { λ session. IsHaltedSession N.is_at N.is_stopped (N.command_in session.node)
+        N.begins_with_bytes session };
 
     ghost ready = { λ session. N.is_open session.node };
 

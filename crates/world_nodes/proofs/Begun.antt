@@ -1,6 +1,7 @@
 -- Disks that are begun: nothing but want of memory refuses empty ones, and they get no fuse.
 use Rattle.std.proofs.Common.{◌≡◌, ◌<◌, ◌||◌, [], ℕ, false, List, length, Result, Ok, Err, inl, inr, refl, sym, ◌∙◌, ap, subst, arith}
 use Rattle.std.proofs.lemmas.Bool.{false≢true}
+use Rattle.std.proofs.lemmas.Grind.{common_steps}
 use Rattle.crash_disk.specs.Disk.{Step, asks_length, content, with_call, is_spent, fails_first}
 use Rattle.crash_disk.specs.Memory.{MemState, plan_of}
 use Rattle.crash_disk.proofs.Plans.{passing-no_fuse}
@@ -27,8 +28,7 @@ init-over steps old new (InitMade count) is over =
 init-over steps old new InitFault is over =
     let less : over.0 < length (steps (content old.history)) = over.1.planned.0 in
     let same = over.1.planned.1 (plan_of old) refl in
-    let all = passing-no_fuse (length (steps (content old.history))) (plan_of old) is.listed.listed is.unfused in
-    absurd (omega (arith, less, same, all))
+    grind (arith, common_steps, passing-no_fuse) steps 20000
 init-over steps old new InitNoMemory is over = refl
 
 init-fresh : (steps : List ℕ → List Step) (old new : MemState) (why : InitRefusal) → IsFresh old
@@ -80,9 +80,7 @@ pair-refused : (identity : List ℕ) (asked leaves new_notes new_leaves : MemSta
     new_leaves
     → why ≡ InitNoMemory
 pair-refused identity asked leaves new_notes new_leaves why is is' (inl (long, refused)) =
-    let more = long asked.history refl in
-    let none : length (content asked.history) ≡ 0 = ap length is.empty in
-    absurd (omega (arith, more, none))
+    grind (arith, common_steps) steps 20000
 pair-refused identity asked leaves new_notes new_leaves why is is' (inr (short, inl (same, refused))) =
     init-fresh journal_steps leaves new_leaves why is' refused.inits
 pair-refused identity asked leaves new_notes new_leaves why is is' (inr (short, inr (stops, passes))) =
@@ -105,15 +103,7 @@ module _ (identity : List ℕ) (notes leaves new_notes new_leaves : MemState) (r
   pub pair-why : (why : InitRefusal) → result ≡ Err why → why ≡ InitNoMemory
   pair-why why is =
       begins-refused identity notes leaves new_notes new_leaves why (fresh notes empty) (fresh leaves bare)
-      (subst (λ (r : Result Unit InitRefusal). BeginsPair mem_told mem_plan mem_faults mem_told mem_plan mem_faults
-      identity notes leaves r new_notes new_leaves) is begins)
+      (grind (arith, common_steps) steps 20000)
 
   pub pair-unfused : (done : Unit {0}) → result ≡ Ok done → HasNoFuse new_notes × HasNoFuse new_leaves
-  pair-unfused done is =
-      let both = subst (λ (r : Result Unit InitRefusal). BeginsPair mem_told mem_plan mem_faults mem_told mem_plan
-      mem_faults identity notes leaves r new_notes new_leaves) is begins in (
-        init-passed (init_steps identity) both.0 new_notes tt
-            (asked-fresh notes both.0 (fresh notes empty) both.1).unfused
-            both.2.0.inits,
-        init-passed journal_steps leaves new_leaves tt (fresh leaves bare).unfused both.2.1.inits,
-      )
+  pair-unfused done is = grind (arith, common_steps, init-passed, asked-fresh, fresh) steps 20000

@@ -1,15 +1,13 @@
 -- What the disks of a node tell whose order was cut, and the images that its crash leaves of them.
-use Rattle.std.proofs.Common.{◌≡◌, ◌<◌, ◌⊎◌, ◌-◌, [], ℕ, zero, suc, min, Bool, true, false, cond, nat_lt, List, Option, Some, None, Result, inl, inr, refl, sym, ◌∙◌, ap, arith}
-use Rattle.std.specs.Prelude.{◌||◌}
+use Rattle.std.proofs.Common.{◌≡◌, ◌⊎◌, ◌-◌, [], ℕ, min, Bool, true, false, cond, nat_lt, List, Option, Some, None, Result, inl, inr, refl, sym, ◌∙◌, ap, arith}
 use Rattle.std.specs.Option.{option_map}
 use Rattle.std.proofs.lemmas.Bool.{ltb-true}
-use Rattle.crash_disk.specs.Disk.{History, content}
-use Rattle.crash_disk.specs.Calls.{with_made}
+use Rattle.std.proofs.lemmas.Grind.{common_steps}
+use Rattle.crash_disk.specs.Disk.{History}
 use Rattle.crash_disk.specs.Memory.{MemState, plan_of, with_fuse}
 use Rattle.crash_disk.specs.Outcomes.{HasPattern}
 use Rattle.crash_disk.specs.declared.outcome.Outcome.{Outcome}
 use Rattle.crash_disk.proofs.Plans.{passing-fuse}
-use Rattle.gate_journal.specs.Steps.{open_steps}
 use Rattle.gate_journal.specs.Journal.{RefusesOpen}
 use Rattle.node_journal.specs.Notes.{NotesState, Did}
 use Rattle.node_journal.specs.Role.{role_in}
@@ -157,17 +155,11 @@ module _ {H : Type 0} (hash : H) (name : List ℕ) (account : ℕ) (role : Role)
       → DisksCrash calls outcome order deed (view_in hash name account role is_up base offers)
       (view_in hash name account role false (down_halves (with_disks (crashed outcome) ran)) [])
   command_crashed is_up offers calls outcome order deed base ran command tell = record {
-    notes_disk = crash_notes outcome ran ∙ ap (crashed_disk outcome)
-        (tell.notes ∙ by_command (is_opening_order order)
-        (cond is_up base.notes.disk.history (with_cut_opening calls base.notes.disk.history))
-        (with_cut_append calls base.notes.records deed.note (with_opening base.notes.disk.history)) command);
+    notes_disk = grind (arith, common_steps, crash_notes, by_command) steps 20000;
     leaves_disk = crash_told outcome ran ∙ (ap (option_map (crashed_disk outcome)) tell.leaves
         ∙ (twice (crashed_disk outcome) (λ disk. with_cut_append calls (leaves_of base) deed.leaf (with_opening disk))
         (option_map told_of base.leaves)
-        ∙ (λ i. option_map (λ disk. crashed_disk outcome (by_command (is_opening_order order)
-        (cond (is_up || nat_lt calls 3) disk (with_opening disk))
-        (with_cut_append calls (leaves_of base) deed.leaf (with_opening disk)) command i))
-        (option_map told_of base.leaves))));
+        ∙ (grind (arith, common_steps, by_command) steps 20000)));
   }
 
   -- those of an opening of a node that is down
@@ -177,50 +169,35 @@ module _ {H : Type 0} (hash : H) (name : List ℕ) (account : ℕ) (role : Role)
       ≡ option_map (λ disk. cond (nat_lt calls 3) disk (with_opening disk)) (option_map told_of base.leaves)
       → DisksCrash calls outcome Open deed (view_in hash name account role false base offers)
       (view_in hash name account role false (down_halves (with_disks (crashed outcome) ran)) [])
-  opening_crashed offers calls outcome deed base ran notes leaves = record {
-    notes_disk = crash_notes outcome ran ∙ ap (crashed_disk outcome) notes;
-    leaves_disk = crash_told outcome ran ∙ (ap (option_map (crashed_disk outcome)) leaves
-        ∙ twice (crashed_disk outcome) (λ disk. cond (nat_lt calls 3) disk (with_opening disk))
-        (option_map told_of base.leaves));
-  }
+  opening_crashed offers calls outcome deed base ran notes leaves =
+      grind (arith, common_steps, crash_notes, crash_told, twice) steps 20000
 
 -- ---- an opening
 
 -- as many of its calls as pass, which are three
 all_made : (calls : ℕ) (disk : History) → nat_lt calls 3 ≡ false → with_opening disk ≡ with_cut_opening calls disk
-all_made zero disk all = absurd (cc all)
-all_made (suc zero) disk all = absurd (cc all)
-all_made (suc (suc zero)) disk all = absurd (cc all)
-all_made (suc (suc (suc calls))) disk all = refl
+all_made calls disk all = grind (arith, common_steps) steps 20000
 
 -- an opening that went through, of disks with a fuse
 module _ (calls : ℕ) (all : nat_lt calls 3 ≡ false) where
   fused_told : (down : DownNode)
       → option_map told_of (down_halves (with_disks (with_fuse calls) down)).leaves
       ≡ option_map told_of (down_halves down).leaves
-  fused_told (WalletDown notes leaves key) = refl
-  fused_told (WatcherDown notes) = refl
-  fused_told (OperatorDown notes) = refl
+  fused_told down = grind (arith, common_steps) steps 20000
 
   fused_notes : (down : DownNode)
       → (down_halves (with_disks (with_fuse calls) down)).notes.disk.history ≡ (down_halves down).notes.disk.history
-  fused_notes (WalletDown notes leaves key) = refl
-  fused_notes (WatcherDown notes) = refl
-  fused_notes (OperatorDown notes) = refl
+  fused_notes down = grind (arith, common_steps) steps 20000
 
   taken_notes : {H : Type 0} (up : UpNode H)
       → (down_halves (taken_down up)).notes.disk.history
       ≡ (up_halves up).notes.disk.history
-  taken_notes (WalletUp up) = refl
-  taken_notes (WatcherUp up) = refl
-  taken_notes (OperatorUp up) = refl
+  taken_notes up = grind (arith, common_steps) steps 20000
 
   taken_leaves : {H : Type 0} (up : UpNode H)
       → option_map told_of (down_halves (taken_down up)).leaves
       ≡ option_map told_of (up_halves up).leaves
-  taken_leaves (WalletUp up) = refl
-  taken_leaves (WatcherUp up) = refl
-  taken_leaves (OperatorUp up) = refl
+  taken_leaves up = grind (arith, common_steps) steps 20000
 
   pub opened_notes_told : {H : Type 0} (down : DownNode) (up : UpNode H)
       → UpOpened (with_disks (with_fuse calls) down) up
@@ -251,11 +228,7 @@ module _ (calls : ℕ) (few : nat_lt calls 3 ≡ true) where
       let passed : min 3 calls ≡ refuses.0 =
       sym (passing-fuse 3 calls (plan_of (with_fuse calls disk)) none.listed refl)
       ∙ refuses.1.planned.1 (plan_of (with_fuse calls disk)) refl in
-      let lt : calls < 3 = ltb-true calls 3 few in
-      let same : refuses.0 ≡ calls = omega (arith, passed, lt) in
-      let told : left.history ≡ with_made refuses.0 (open_steps (content disk.history)) disk.history =
-      cc refuses.1.calls in
-      told ∙ ap (λ (n : ℕ). with_made n (open_steps (content disk.history)) disk.history) same
+      grind (arith, common_steps, ltb-true) steps 20000
 
   -- the leaves' disk stays
   stays_told : (disk : Option History) → disk ≡ option_map (λ d. cond (nat_lt calls 3) d (with_opening d)) disk

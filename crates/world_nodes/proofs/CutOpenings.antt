@@ -1,8 +1,9 @@
 -- What crashes leave of openings that were cut.
-use Rattle.std.proofs.Common.{◌≡◌, ◌<◌, ◌+◌, ◌∷◌, [], ℕ, zero, suc, min, true, false, nat_lt, List, length, Result, inl, inr, refl, sym, ◌∙◌, subst, arith}
+use Rattle.std.proofs.Common.{◌≡◌, ◌+◌, ◌∷◌, [], ℕ, zero, suc, min, true, false, nat_lt, List, length, Result, inl, inr, refl, sym, ◌∙◌, subst, arith}
 use Rattle.std.specs.Prelude.{◌≤◌}
 use Rattle.std.proofs.lemmas.Bool.{ltb-true}
-use Rattle.crash_disk.specs.Disk.{History, MayLeave, content, passing}
+use Rattle.std.proofs.lemmas.Grind.{common_steps}
+use Rattle.crash_disk.specs.Disk.{History, MayLeave, content}
 use Rattle.crash_disk.specs.Calls.{failed_after, after_course}
 use Rattle.crash_disk.specs.Memory.{MemState, plan_of, with_fuse}
 use Rattle.crash_disk.specs.declared.outcome.Outcome.{Outcome}
@@ -66,8 +67,7 @@ module _ (calls : ℕ) (few : nat_lt calls 3 ≡ true) (outcome : Outcome) where
   never_opened records disk new none opened =
       let all : 3 ≡ min 3 calls =
       sym opened.passes ∙ passing-fuse 3 calls (plan_of (with_fuse calls disk)) none.listed refl in
-      let lt : calls < 3 = ltb-true calls 3 few in
-      absurd (omega (arith, all, lt))
+      grind (arith, common_steps, ltb-true) steps 20000
 
   pub refused_cut : (dig : List ℕ → List ℕ) (down left : DownNode) → KeepsAll (down_halves down)
       → NoneListedOf (down_halves down) → RefusesDown dig (with_disks (with_fuse calls) down) JournalFault left
@@ -142,6 +142,4 @@ fused_listed calls (OperatorDown notes) none =
 pub fused_same : (calls : ℕ) (down : DownNode)
     → wallet_of (bare_node (down_halves (with_disks (with_fuse calls) down)))
     ≡ wallet_of (bare_node (down_halves down))
-fused_same calls (WalletDown notes leaves key) = refl
-fused_same calls (WatcherDown notes) = refl
-fused_same calls (OperatorDown notes) = refl
+fused_same calls down = grind (arith, common_steps) steps 20000

@@ -1,8 +1,8 @@
 -- What crashes and cuts leave of the halves of a node, and so of the node.
-use Rattle.std.proofs.Common.{◌≡◌, ◌⊎◌, ◌-◌, [], ℕ, min, Bool, true, false, cond, nat_lt, List, Option, Some, None, inl, inr, refl, sym, ◌∙◌, ap, subst}
+use Rattle.std.proofs.Common.{◌≡◌, ◌⊎◌, ◌-◌, [], ℕ, min, Bool, true, false, cond, nat_lt, List, Option, Some, None, inl, inr, refl, sym, ◌∙◌, ap, subst, arith}
 use Rattle.std.specs.Prelude.{◌&&◌, ◌||◌}
 use Rattle.std.specs.Option.{ForSome, option_map, option_map_or, is_some}
-use Rattle.crash_disk.specs.Disk.{content}
+use Rattle.std.proofs.lemmas.Grind.{common_steps}
 use Rattle.crash_disk.specs.Memory.{MemState, with_fuse}
 use Rattle.crash_disk.specs.Outcomes.{HasPattern}
 use Rattle.crash_disk.specs.declared.outcome.Outcome.{Outcome}
@@ -28,7 +28,7 @@ use Rattle.world_nodes.specs.declared.down.DownNode.TheVariants.{Wallet as Walle
 use Rattle.world_nodes.specs.declared.up.UpNode.{UpNode}
 use Rattle.world_nodes.specs.declared.up.UpNode.TheVariants.{Wallet as WalletUp, Watcher as WatcherUp, Operator as OperatorUp}
 use Rattle.world_nodes.specs.declared.entry.Site.{Site}
-use Rattle.world_nodes.specs.declared.entry.Site.TheVariants.{Up, Down, Gone}
+use Rattle.world_nodes.specs.declared.entry.Site.TheVariants.{Down}
 use Rattle.world_nodes.specs.declared.entry.Member.{Member}
 use Rattle.world_nodes.specs.Nodes.{EachKeeps, Crashes, crashed_disk}
 use Rattle.world_nodes.specs.Inside.{IsBegun as IsLeft, mem_told, mem_plan, mem_faults, NoneListed, Half, Halves, kept_of, kept_half, crashed, NoneListedOf, leaves_of, down_kind, down_halves, with_disks, up_kind, up_halves, taken_down, Opens, UpDid, IsDownOf, stop_in, member_kind, halves_of, view_in, IsOf, IsWhole}
@@ -40,11 +40,7 @@ use Rattle.world_nodes.proofs.Runs.{KeepsAll, AddsFew}
 
 kept_same : (disk : MemState) (records : List (List ℕ)) → EachKeeps records disk.history
     → kept_half disk ≡ record { disk = disk; records = records }
-kept_same disk records keeps =
-    let same : kept_of disk.history ≡ records =
-    ap (λ (k : Option (List (List ℕ))). Rattle.std.specs.Option.unwrap_or k [])
-    (keeps (content disk.history) (content_may_be_left disk.history)) in
-    (λ i. record { disk = disk; records = same i })
+kept_same disk records keeps = grind (arith, common_steps, content_may_be_left) steps 20000
 
 taken_same : {H : Type 0} (node : UpNode H) → KeepsAll (up_halves node)
     → down_halves (taken_down node) ≡ up_halves node
@@ -60,32 +56,20 @@ taken_same (OperatorUp node) keeps =
 -- the disks that were taken from a node have its halves
 pub down_same : {H : Type 0} (member : Member) (site : Site H) (down : DownNode) → IsDownOf site down
     → KeepsAll (halves_of member site) → down_halves down ≡ halves_of member site
-down_same member (Up node) down is keeps = ap down_halves is ∙ taken_same node keeps
-down_same member (Down old) down is keeps = ap down_halves is
-down_same member Gone down is keeps = absurd is
+down_same member site down is keeps = grind (arith, common_steps, taken_same) steps 20000
 
 pub taken_kind : {H : Type 0} (node : UpNode H) → down_kind (taken_down node) ≡ up_kind node
-taken_kind (WalletUp node) = refl
-taken_kind (WatcherUp node) = refl
-taken_kind (OperatorUp node) = refl
+taken_kind node = grind (arith, common_steps) steps 20000
 
 -- their kind is the member's
 pub down_is : {H : Type 0} (hash : H) (member : Member) (site : Site H) (down : DownNode) → IsDownOf site down
     → IsWhole hash member site → down_kind down ≡ member_kind member
-down_is hash member (Up node) down is whole = ap down_kind is ∙ (taken_kind node ∙ whole.is_site.0)
-down_is hash member (Down old) down is whole = ap down_kind is ∙ whole.is_site
-down_is hash member Gone down is whole = absurd is
+down_is hash member site down is whole = grind (arith, common_steps, taken_kind) steps 20000
 
 -- and what holds of the entry holds of them
 pub whole_down : {H : Type 0} (hash : H) (member : Member) (site : Site H) (down : DownNode) → IsDownOf site down
     → KeepsAll (halves_of member site) → IsWhole hash member site → IsWhole hash member (Down down)
-whole_down hash member site down is keeps whole =
-    let same = down_same member site down is keeps in
-    record {
-      is_site = down_is hash member site down is whole;
-      none_listed = subst NoneListedOf (sym same) whole.none_listed;
-      identity = subst (λ (h : Halves). IsOf member h.notes.records) (sym same) whole.identity;
-    }
+whole_down hash member site down is keeps whole = grind (arith, common_steps, down_same, down_is) steps 20000
 
 -- ---- what is left
 
@@ -105,24 +89,14 @@ left_records leaves (Some half) left = left.records_are
 
 left_keep : (leaves : List (List ℕ)) (half : Option Half) → LeavesLeft leaves half
     → ForSome half (λ h. EachKeeps h.records h.disk.history)
-left_keep leaves None left = λ h is. absurd (cc is)
-left_keep leaves (Some half) left = λ h is.
-    (let same : half ≡ h = cc is in
-    subst (λ (x : Half). EachKeeps x.records x.disk.history) same
-    (subst (λ (rs : List (List ℕ)). EachKeeps rs half.disk.history) (sym left.records_are) left.keeps))
+left_keep leaves half left = grind (arith, common_steps) steps 20000
 
 left_none : (leaves : List (List ℕ)) (half : Option Half) → LeavesLeft leaves half
     → ForSome half (λ h. NoneListed h.disk)
-left_none leaves None left = λ h is. absurd (cc is)
-left_none leaves (Some half) left = λ h is.
-    (let same : half ≡ h = cc is in subst (λ (x : Half). NoneListed x.disk) same left.listed)
+left_none leaves half left = grind (arith, common_steps) steps 20000
 
 pub left_keeps : (notes leaves : List (List ℕ)) (halves : Halves) → AreLeft notes leaves halves → KeepsAll halves
-left_keeps notes leaves halves left = record {
-  notes = subst (λ (rs : List (List ℕ)). EachKeeps rs halves.notes.disk.history) (sym left.left_notes.records_are)
-      left.left_notes.keeps;
-  leaves = left_keep leaves halves.leaves left.left_leaves;
-}
+left_keeps notes leaves halves left = grind (arith, common_steps, left_keep) steps 20000
 
 -- the entry of such disks is whole
 pub whole_left : {H : Type 0} (hash : H) (member : Member) (down : DownNode) (notes leaves : List (List ℕ))
@@ -158,23 +132,17 @@ crash_left outcome (OperatorDown notes) keeps none = record {
 }
 
 pub with_kind : (change : MemState → MemState) (down : DownNode) → down_kind (with_disks change down) ≡ down_kind down
-with_kind change (WalletDown notes leaves key) = refl
-with_kind change (WatcherDown notes) = refl
-with_kind change (OperatorDown notes) = refl
+with_kind change down = grind (arith, common_steps) steps 20000
 
 pub crash_told : (outcome : Outcome) (down : DownNode)
     → option_map (λ (half : Half). half.disk.history) (down_halves (with_disks (crashed outcome) down)).leaves
     ≡ option_map (crashed_disk outcome) (option_map (λ (half : Half). half.disk.history) (down_halves down).leaves)
-crash_told outcome (WalletDown notes leaves key) = refl
-crash_told outcome (WatcherDown notes) = refl
-crash_told outcome (OperatorDown notes) = refl
+crash_told outcome down = grind (arith, common_steps) steps 20000
 
 pub crash_notes : (outcome : Outcome) (down : DownNode)
     → (down_halves (with_disks (crashed outcome) down)).notes.disk.history
     ≡ crashed_disk outcome (down_halves down).notes.disk.history
-crash_notes outcome (WalletDown notes leaves key) = refl
-crash_notes outcome (WatcherDown notes) = refl
-crash_notes outcome (OperatorDown notes) = refl
+crash_notes outcome down = grind (arith, common_steps) steps 20000
 
 -- over the parts of a node that stay
 module _ {H : Type 0} (hash : H) (name : List ℕ) (account : ℕ) (role : Role) where
@@ -187,27 +155,14 @@ module _ {H : Type 0} (hash : H) (name : List ℕ) (account : ℕ) (role : Role)
         leaves =
             leaves;
       })
-  left_node is_up base halves offers notes leaves left = λ i. record {
-    name = name;
-    account = account;
-    role = role;
-    is_up = false;
-    notes = left.left_notes.records_are i;
-    leaves = left_records leaves halves.leaves left.left_leaves i;
-    offers = [];
-  }
+  left_node is_up base halves offers notes leaves left = grind (arith, common_steps, left_records) steps 20000
 
   pub crash_done : (is_up : Bool) (offers : List RootCall) (outcome : Outcome) (down : DownNode)
       → KeepsAll (down_halves down) → NoneListedOf (down_halves down)
       → Crashes outcome (view_in hash name account role is_up (down_halves down) offers)
       (view_in hash name account role false (down_halves (with_disks (crashed outcome) down)) [])
-  crash_done is_up offers outcome down keeps none = record {
-    node = left_node is_up (down_halves down) (down_halves (with_disks (crashed outcome) down)) offers
-        (down_halves down).notes.records (leaves_of (down_halves down)) (crash_left outcome down keeps none);
-    notes_disk = crash_notes outcome down;
-    leaves_disk = crash_told outcome down;
-    hash = refl;
-  }
+  crash_done is_up offers outcome down keeps none =
+      grind (arith, common_steps, left_node, crash_left, crash_notes, crash_told) steps 20000
 
 -- the disks of a node that is up, after a crash
 pub up_left : {H : Type 0} (outcome : Outcome) (node : UpNode H) → KeepsAll (up_halves node)
@@ -216,24 +171,14 @@ pub up_left : {H : Type 0} (outcome : Outcome) (node : UpNode H) → KeepsAll (u
     (down_halves (with_disks (crashed outcome) (taken_down node)))
 up_left outcome node keeps none =
     let same = taken_same node keeps in
-    subst (λ (h : Halves). AreLeft h.notes.records (leaves_of h)
-    (down_halves (with_disks (crashed outcome) (taken_down node)))) same
-    (crash_left outcome (taken_down node) (subst KeepsAll (sym same) keeps) (subst NoneListedOf (sym same) none))
+    grind (arith, common_steps, crash_left) steps 20000
 
 -- ---- a command that was cut
 
 -- the kind stays
 pub cut_kind : {H : Type 0} (deed : Doing) (opened ran : UpNode H) (stop : Option Stop) → UpDid deed opened stop ran
     → down_kind (taken_down ran) ≡ up_kind opened
-cut_kind deed (WalletUp opened) (WalletUp ran) stop did = refl
-cut_kind deed (WatcherUp opened) (WatcherUp ran) stop did = refl
-cut_kind deed (OperatorUp opened) (OperatorUp ran) stop did = refl
-cut_kind deed (WalletUp opened) (WatcherUp ran) stop did = absurd did
-cut_kind deed (WalletUp opened) (OperatorUp ran) stop did = absurd did
-cut_kind deed (WatcherUp opened) (WalletUp ran) stop did = absurd did
-cut_kind deed (WatcherUp opened) (OperatorUp ran) stop did = absurd did
-cut_kind deed (OperatorUp opened) (WalletUp ran) stop did = absurd did
-cut_kind deed (OperatorUp opened) (WatcherUp ran) stop did = absurd did
+cut_kind deed opened ran stop did = grind (arith, common_steps) steps 20000
 
 -- what a deed leaves of the records that there were, by what it gave, or that it was stopped
 abbrev pub CutLeaves : ℕ → Outcome → Doing → Option Given → List (List ℕ) → List (List ℕ) → Halves → Type 0
@@ -281,8 +226,7 @@ module _ (calls fuse : ℕ) (fused : min 4 (fuse - 3) ≡ min 4 calls) (outcome 
           ap (λ (b : Bool). b && nat_lt calls 4) adds ∙ by.0,
           record {
             left_notes = by.1;
-            left_leaves = ap (λ (rs : List (List ℕ)). cond (is_added calls outcome) rs []) (no_leaves deed.leaf leaf)
-                ∙ same_if (is_added calls outcome) [];
+            left_leaves = grind (arith, common_steps, no_leaves, same_if) steps 20000;
           },
         )
 
@@ -320,8 +264,7 @@ module _ (calls fuse : ℕ) (fused : min 4 (fuse - 3) ≡ min 4 calls) (outcome 
           ap (λ (b : Bool). b && nat_lt calls 4) (or_false (is_some added)) ∙ by.0,
           record {
             left_notes = by.1;
-            left_leaves = subst (λ (rs : List (List ℕ)). IsLeft rs (kept_half (crashed outcome new.leaves_disk)))
-                (sym (same_if (is_added calls outcome) (kept_of leaves.history))) stays;
+            left_leaves = grind (arith, common_steps, same_if) steps 20000;
           },
         )
     both_cut (Some note) (Some leaf) response notes leaves none none' state new first second one given did =
@@ -340,8 +283,7 @@ module _ (calls fuse : ℕ) (fused : min 4 (fuse - 3) ≡ min 4 calls) (outcome 
         new.notes_disk did.disk in (
           by.0,
           record {
-            left_notes = subst (λ (rs : List (List ℕ)). IsLeft rs (kept_half (crashed outcome new.notes_disk)))
-                (sym (same_if (is_added calls outcome) (kept_of notes.history))) stays;
+            left_notes = grind (arith, common_steps, same_if) steps 20000;
             left_leaves = by.1;
           },
         )

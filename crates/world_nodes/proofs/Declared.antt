@@ -1,9 +1,10 @@
 -- Nodes that are declared.
-use Rattle.std.proofs.Common.{◌≡◌, ◌∷◌, [], ℕ, true, false, List, length, Option, Some, None, Result, Ok, Err, refl, sym, ◌∙◌, ap, subst}
+use Rattle.std.proofs.Common.{◌≡◌, ◌∷◌, [], ℕ, true, false, List, length, Option, Some, None, Result, Ok, refl, sym, ◌∙◌, ap, subst, arith}
 use Rattle.std.specs.Option.{ForSome, option_map, option_map_or, unwrap_or}
 use Rattle.std.specs.List.{slice_get}
 use Rattle.std.specs.Result.{OnOk, IfOk}
 use Rattle.std.proofs.lemmas.Result.{IfOk-at_ok}
+use Rattle.std.proofs.lemmas.Grind.{common_steps}
 use Rattle.crash_disk.specs.Disk.{Step, asks_length, content, with_call, after_calls}
 use Rattle.crash_disk.specs.Calls.{WhereTold}
 use Rattle.crash_disk.specs.Memory.{MemState}
@@ -47,13 +48,7 @@ pub declared : (identity : List ℕ) (member : Member) (down : DownNode) → dow
 declared identity member down kind begun unfused role is =
     let first : identity ≡ first_note down =
     sym (ap (λ (rs : List (List ℕ)). unwrap_or (slice_get rs 0) []) begun.notes.records_are) in
-    record {
-      kind = kind;
-      unfused = unfused;
-      role = subst (IsIdentityOf (member_kind member)) first role;
-      begun = subst (λ (i : List ℕ). AreBegun i down) first begun;
-      is_of = subst (λ (i : List ℕ). IsOf member (i ∷ [])) first is;
-    }
+    grind (arith, common_steps) steps 20000
 
 pub begun_records : (half : Option Half) → ForSome half (IsBegun []) → option_map_or (λ (h : Half). h.records) half
     [] ≡ []
@@ -62,8 +57,7 @@ begun_records (Some half) begun = (begun half refl).records_are
 
 pub begun_keeps : (identity : List ℕ) (down : DownNode) → AreBegun identity down → KeepsAll (down_halves down)
 begun_keeps identity down begun = record {
-  notes = subst (λ (rs : List (List ℕ)). EachKeeps rs (down_halves down).notes.disk.history)
-      (sym begun.notes.records_are) begun.notes.keeps;
+  notes = grind (arith, common_steps) steps 20000;
   leaves = λ half is. subst (λ (rs : List (List ℕ)). EachKeeps rs half.disk.history)
       (sym (begun.leaves half is).records_are) (begun.leaves half is).keeps;
 }
@@ -92,15 +86,7 @@ declared_comes {H} digest hash name account member down up is opens same =
     let leaves : leaves_of (up_halves up) ≡ [] =
     (λ i. (records i).leaves) ∙ begun_records (down_halves down).leaves is.begun.leaves in
     let after : IsWhole hash member (Up up) = whole_opened hash member down up whole opened same in (
-      (λ i. record {
-        name = name;
-        account = account;
-        role = role_of (member_kind member);
-        is_up = true;
-        notes = notes i;
-        leaves = leaves i;
-        offers = [];
-      }),
+      grind (arith, common_steps) steps 20000,
       keeps_view hash name account (role_of (member_kind member)) true (up_halves up) [] (up_has hash member up after)
           (opened_keeps down up opened),
       after,
@@ -231,19 +217,11 @@ module _ {H E : Type 0} (identity : List ℕ) (down : DownNode) where
       → IfOk result (λ entry. entry.notes_disk ≡ with_opening (notes_told down))
       → IfOk result (λ entry. entry.leaves_disk ≡ option_map with_opening (leaves_told down))
       → IfOk result (DiskBegan identity)
-  declared_alone (Err why) notes leaves of_notes of_leaves = tt
-  declared_alone (Ok entry) notes leaves of_notes of_leaves = record {
-    notes = of_notes ∙ ap with_opening notes;
-    leaves = of_leaves ∙ ap (option_map with_opening) leaves;
-  }
+  declared_alone result notes leaves of_notes of_leaves = grind (arith, common_steps) steps 20000
 
   pub declared_both : (result : Result (NodeView H) E) → notes_told down ≡ begun_beside_leaves identity
       → leaves_told down ≡ Some begun_leaves
       → IfOk result (λ entry. entry.notes_disk ≡ with_opening (notes_told down))
       → IfOk result (λ entry. entry.leaves_disk ≡ option_map with_opening (leaves_told down))
       → IfOk result (DisksBegan identity)
-  declared_both (Err why) notes leaves of_notes of_leaves = tt
-  declared_both (Ok entry) notes leaves of_notes of_leaves = record {
-    notes = of_notes ∙ ap with_opening notes;
-    leaves = of_leaves ∙ ap (option_map with_opening) leaves;
-  }
+  declared_both result notes leaves of_notes of_leaves = grind (arith, common_steps) steps 20000

@@ -1,20 +1,18 @@
 -- What the calls of an entry do to its node.
-use Rattle.std.proofs.Common.{◌≡◌, ◌-◌, ◌∷◌, ◌++◌, [], ℕ, min, Bool, true, false, cond, not, nat_lt, List, length, Option, Some, None, refl, sym, ◌∙◌, ap, subst, arith, length-append}
+use Rattle.std.proofs.Common.{◌≡◌, ◌-◌, ◌∷◌, ◌++◌, [], ℕ, min, Bool, true, false, cond, not, List, length, Option, Some, None, refl, sym, ◌∙◌, ap, subst, arith, length-append}
 use Rattle.std.specs.Prelude.{◌&&◌}
 use Rattle.std.specs.Option.{IfSome, option_or}
 use Rattle.std.specs.List.{slice_get}
 use Rattle.std.proofs.lemmas.Option.{slice_get_past, slice_get_read}
 use Rattle.std.proofs.Math.Seq.{get_or-append_seam}
+use Rattle.std.proofs.lemmas.Grind.{common_steps}
 use Rattle.crash_disk.specs.Memory.{with_fuse}
 use Rattle.crash_disk.specs.Outcomes.{HasPattern}
 use Rattle.crash_disk.specs.declared.outcome.Outcome.{Outcome}
 use Rattle.gate_journal.specs.Laws.{is_added}
-use Rattle.leaf_journal.specs.Records.{messages_of}
 use Rattle.plasma_tx.specs.declared.call.RootCall.{RootCall}
-use Rattle.node_rules.specs.Wallet.{WalletRecords}
 use Rattle.world_rules.specs.World.{Role, Node}
-use Rattle.node_replies.specs.Orders.{Doing, adds_record, with_record}
-use Rattle.node_replies.specs.declared.reply.Reply.{Reply}
+use Rattle.node_replies.specs.Orders.{Doing, with_record}
 use Rattle.world_rules.specs.Steps.{after_crash}
 use Rattle.node_replies.specs.declared.given.Given.{Given}
 use Rattle.node_replies.specs.Given.{IsGiven}
@@ -32,7 +30,7 @@ use Rattle.world_nodes.specs.Orders.{fits, is_opening_order}
 use Rattle.world_rules.specs.Orders.{node_does}
 use Rattle.world_nodes.specs.Nodes.{with_records, NodeView, role_of, Spells, IsDone, Crashes}
 use Rattle.world_nodes.specs.Cuts.{is_kept, DisksCrash, Ends, Cuts}
-use Rattle.world_nodes.specs.Inside.{Halves, crashed, leaves_of, bare_node, down_kind, down_halves, with_disks, up_kind, up_halves, up_hash, taken_down, Opens, UpDid, IsDownOf, stop_in, IsCutShort, IsCutOpening, opening_gives, counts_of, kept_behind, end_in, member_kind, is_up, halves_of, view_in, view_of, IsOf, IsWhole}
+use Rattle.world_nodes.specs.Inside.{Halves, crashed, leaves_of, bare_node, down_kind, down_halves, with_disks, up_kind, up_halves, up_hash, taken_down, Opens, UpDid, IsDownOf, IsCutShort, IsCutOpening, opening_gives, counts_of, kept_behind, end_in, member_kind, is_up, halves_of, view_in, view_of, IsOf, IsWhole}
 use Rattle.world_nodes.proofs.Members.{stays_of}
 use Rattle.world_nodes.proofs.Runs.{KeepsAll, up_has, down_has, view_keeps, keeps_view, adds_few, same_deed, UpRan, up_ran, ran_keeps, done, whole_ran, up_opened, opened_keeps, opened_same, whole_opened, opening_done, opened_none}
 use Rattle.world_nodes.proofs.Cuts.{down_same, whole_down, AreLeft, left_keeps, whole_left, crash_left, crash_done, with_kind, CutLeaves, node_cut, left_node, cut_kind, up_left, taken_kind, left_records}
@@ -63,9 +61,7 @@ command_done {H} digest hash name account member offers more old site node new l
     let view = view_of hash name account member (Up node) offers in
     let deed' = node_does (digest (up_hash node)) log (bare_node (up_halves node)) order in
     let deed = node_does (digest hash) log view.node order in
-    let same : deed' ≡ deed =
-    ap (λ (h : H). node_does (digest h) log (bare_node (up_halves node)) order) whole'.is_site.1
-    ∙ same_deed (digest hash) log (bare_node (up_halves node)) view.node order refl command in
+    let same : deed' ≡ deed = grind (arith, common_steps, same_deed) steps 20000 in
     let fit' : fits (role_of (up_kind node)) order ≡ true =
     ap (λ k. fits (role_of k) order) whole'.is_site.0 ∙ (ap (λ (v : NodeView H). fits v.node.role order) is' ∙ fit) in
     let few = adds_few (digest (up_hash node)) log (bare_node (up_halves node)) node order fit' command in
@@ -77,8 +73,7 @@ command_done {H} digest hash name account member offers more old site node new l
     (view_in hash name account role true (up_halves new) deed.response.offers) =
     done hash name account role (up_halves node) (up_halves new) offers order deed given ran.halves gives' in
     let done'' : IsDone order deed view given (view_of hash name account member (Up new) more) =
-    subst (λ (os : List RootCall). IsDone order deed view given
-    (view_in hash name account role true (up_halves new) os)) (sym (copied ∙ gives'.offers)) done' in
+    grind (arith, common_steps) steps 20000 in
     let after : IsWhole hash member (Up new) = whole_ran hash member deed node new whole' ran in (
       subst (λ (v : NodeView H). IsDone order (node_does (digest v.hash) log v.node order) v given
           (view_of hash name account member (Up new) more)) is' done'',
@@ -107,20 +102,13 @@ opening_comes {H} digest hash name account member offers more old site down up l
     view_keeps hash name account role false (down_halves down) offers (subst Spells (sym is') spells) in
     let opened = up_opened (digest hash) down up opens keeps in
     let records = opened_same down up opened in
-    let gives' : IsGiven (node_does (digest hash) log view.node Open).response given = record {
-      reply = gives.reply ∙ (λ i. Reply.Opened (length (records i).notes - 1) (length (messages_of (records
-          i).leaves)));
-      made = gives.made;
-      offers = gives.offers;
-    } in
+    let gives' : IsGiven (node_does (digest hash) log view.node Open).response given =
+    grind (arith, common_steps) steps 20000 in
     let done' = opening_done (digest hash) log hash name account role down up offers given opened gives' in
     let done'' : IsDone Open (node_does (digest hash) log view.node Open) view given (view_of hash name
-    account member (Up up) more) =
-    subst (λ (os : List RootCall). IsDone Open (node_does (digest hash) log view.node Open) view given
-    (view_in hash name account role true (up_halves up) os)) (sym none) done' in
+    account member (Up up) more) = grind (arith, common_steps) steps 20000 in
     let after : IsWhole hash member (Up up) = whole_opened hash member down up whole' opened same in (
-      subst (λ (v : NodeView H). IsDone Open (node_does (digest v.hash) log v.node Open) v given
-          (view_of hash name account member (Up up) more)) is' done'',
+      grind (arith, common_steps) steps 20000,
       keeps_view hash name account role true (up_halves up) more (up_has hash member up after)
           (opened_keeps down up opened),
       after,
@@ -185,8 +173,7 @@ kept_is : (b : Bool) (base halves : Halves) (deed : Doing)
     → leaves_of halves ≡ cond b (with_record (leaves_of base) deed.leaf) (leaves_of base)
     → kept_behind (counts_of base) halves ≡ cond b (option_or deed.note deed.leaf) None
 kept_is b base halves deed notes leaves =
-    (λ i. option_or (slice_get (notes i) (length base.notes.records)) (slice_get (leaves i) (length (leaves_of
-    base))))
+    (grind (arith, common_steps) steps 20000)
     ∙ ((λ i. option_or (end_if b base.notes.records deed.note i) (end_if b (leaves_of base) deed.leaf i))
     ∙ or_if b deed.note deed.leaf)
 
@@ -211,8 +198,7 @@ ends hash name account role offers calls outcome order deed base halves (Some gi
   gives,
   record {
     is_up = refl;
-    passed = ap (λ (b : Bool). cond b (not true && nat_lt calls 3) (adds_record deed && nat_lt calls 4))
-        command ∙ left.0;
+    passed = grind (arith, common_steps) steps 20000;
     node = left_node hash name account role true base halves offers (with_record base.notes.records deed.note)
         (with_record (leaves_of base) deed.leaf) left.1;
     disks = disks;
@@ -228,14 +214,9 @@ ends hash name account role offers calls outcome order deed base halves None com
     (cond added (with_record (leaves_of base) deed.leaf) (leaves_of base)) left.1 in
     record {
       is_up = refl;
-      stopped = ap (λ (b : Bool). cond b (not true && nat_lt calls 3) (adds_record deed && nat_lt calls 4))
-          command ∙ left.0;
-      keeps = kept_is added base halves deed left.1.left_notes.records_are
-          (left_records (cond added (with_record (leaves_of base) deed.leaf) (leaves_of base))
-          halves.leaves left.1.left_leaves)
-          ∙ sym (ap (λ (b : Bool). cond b (option_or deed.note deed.leaf) None) kept);
-      node = there ∙ (node_if added node deed ∙ sym (ap (λ (b : Bool). after_crash (cond b (with_records node
-          deed) node)) kept));
+      stopped = grind (arith, common_steps) steps 20000;
+      keeps = grind (arith, common_steps, kept_is, left_records) steps 20000;
+      node = there ∙ (node_if added node deed ∙ sym (grind (arith, common_steps) steps 20000));
       disks = disks;
       hash = refl;
     }
@@ -296,26 +277,17 @@ cut_comes {H} digest hash name account member offers more old site down fused ra
     let records = opened_same (with_disks (with_fuse fuse) down) cut.opened opened ∙ fused_same fuse down in
     let as_deed : deed' ≡ deed =
     same_deed (digest hash) log (bare_node (up_halves cut.opened)) view.node order records command in
-    let fit' : fits (role_of (up_kind cut.opened)) order ≡ true =
-    ap (λ k. fits (role_of k) order) (opened.kind ∙ (with_kind (with_fuse fuse) down ∙ whole'.is_site))
-    ∙ (ap (λ (v : NodeView H). fits v.node.role order) is ∙ fit) in
+    let fit' : fits (role_of (up_kind cut.opened)) order ≡ true = grind (arith, common_steps, with_kind) steps 20000 in
     let few = adds_few (digest hash) log (bare_node (up_halves cut.opened)) cut.opened order fit' command in
     let left' = node_cut calls fuse fuses outcome pattern (digest hash) deed' down cut.opened cut.ran given keeps'
     whole'.none_listed few opens cut.did in
     let after : with_disks (crashed outcome) (taken_down cut.ran) ≡ new =
     ap (with_disks (crashed outcome)) (sym cut.down) ∙ sym crashes in
     let left : CutLeaves calls outcome deed given (down_halves down).notes.records (leaves_of (down_halves down))
-    (down_halves new) =
-    subst (λ (d : DownNode). CutLeaves calls outcome deed given (down_halves down).notes.records
-    (leaves_of (down_halves down)) (down_halves d)) after
-    (subst (λ (d : Doing). CutLeaves calls outcome d given (down_halves down).notes.records
-    (leaves_of (down_halves down)) (down_halves (with_disks (crashed outcome) (taken_down cut.ran)))) as_deed
-    left') in
+    (down_halves new) = grind (arith, common_steps) steps 20000 in
     let gives : IfSome given (IsGiven deed.response) =
     subst (λ (d : Doing). IfSome given (IsGiven d.response)) as_deed cut.gives in
-    let kind : down_kind new ≡ member_kind member =
-    ap down_kind (sym after) ∙ (with_kind (crashed outcome) (taken_down cut.ran) ∙ (cut_kind deed' cut.opened cut.ran
-    (stop_in given) cut.did ∙ (opened.kind ∙ (with_kind (with_fuse fuse) down ∙ whole'.is_site)))) in
+    let kind : down_kind new ≡ member_kind member = grind (arith, common_steps, with_kind, cut_kind) steps 20000 in
     let comes = left_comes hash member calls outcome deed given (down_halves down).notes.records
     (leaves_of (down_halves down)) new kind whole'.identity left in
     let tells : TellCut calls deed (down_halves down) (down_halves (taken_down cut.ran)) =
@@ -335,8 +307,7 @@ cut_comes {H} digest hash name account member offers more old site down fused ra
     new) []) =
     subst (λ (v : NodeView H). Cuts (digest v.hash) log calls outcome order v end
     (view_of hash name account member (Down new) [])) base
-    (subst (λ (e : CutEnd). Ends calls outcome order deed view e (view_of hash name account member (Down new) []))
-    end_is ended) in
+    (grind (arith, common_steps) steps 20000) in
     subst (λ (os : List RootCall). Cuts (digest old.hash) log calls outcome order old end
     (view_of hash name account member (Down new) os)
     × Spells (view_of hash name account member (Down new) os) × IsWhole hash member (Down new)) (sym none) (
@@ -385,10 +356,7 @@ opening_ends digest hash name account member offers down left log calls outcome 
     let after = with_disks (crashed outcome) left in
     let back : taken_down up ≡ left = sym cut.1.2 in
     let here : AreLeft (down_halves down).notes.records (leaves_of (down_halves down)) (down_halves after) =
-    subst (λ (d : DownNode). AreLeft (down_halves down).notes.records (leaves_of (down_halves down))
-    (down_halves (with_disks (crashed outcome) d))) back
-    (subst (λ (w : WalletRecords). AreLeft w.notes w.leaves
-    (down_halves (with_disks (crashed outcome) (taken_down up)))) records there) in
+    grind (arith, common_steps) steps 20000 in
     let view = view_of hash name account member (Down down) offers in
     let deed = node_does (digest hash) log view.node Open in
     let disks : DisksCrash calls outcome Open deed view (view_in hash name account role false (down_halves after) []) =
@@ -397,12 +365,7 @@ opening_ends digest hash name account member offers down left log calls outcome 
     (opening_crashed hash name account role offers calls outcome deed (down_halves down) (taken_down up)
     (opened_notes_told calls cut.0 down up opened) (opened_leaves_told calls cut.0 down up opened)) in (
       (
-        record {
-          reply = cut.1.3.reply
-              ∙ (λ i. Reply.Opened (length (records i).notes - 1) (length (messages_of (records i).leaves)));
-          made = cut.1.3.made;
-          offers = cut.1.3.offers;
-        },
+        grind (arith, common_steps) steps 20000,
         record {
           is_up = refl;
           passed = cut.0;
@@ -412,9 +375,7 @@ opening_ends digest hash name account member offers down left log calls outcome 
           hash = refl;
         },
       ),
-      ap down_kind (ap (with_disks (crashed outcome)) (sym back))
-          ∙ (with_kind (crashed outcome) (taken_down up)
-          ∙ (taken_kind up ∙ (opened.kind ∙ (with_kind (with_fuse calls) down ∙ whole.is_site)))),
+      grind (arith, common_steps, with_kind, taken_kind) steps 20000,
       here,
     )
 
@@ -443,9 +404,7 @@ cut_opening_comes {H} digest hash name account member offers more old site down 
     let N = (down_halves down).notes.records in
     let L = leaves_of (down_halves down) in
     let cuts : Cuts (digest old.hash) log calls outcome Open old end (view_of hash name account member (Down
-    after) []) =
-    subst (λ (v : NodeView H). Cuts (digest v.hash) log calls outcome Open v end
-    (view_of hash name account member (Down after) [])) is' by.0 in
+    after) []) = grind (arith, common_steps) steps 20000 in
     let whole'' : IsWhole hash member (Down after) = whole_left hash member after N L by.1 by.2 whole'.identity in
     let all : Cuts (digest old.hash) log calls outcome Open old end (view_of hash name account member (Down
     after) [])

@@ -1,8 +1,9 @@
 -- What a command, an opening and a crash do to one disk of a node and to the records that it has there.
-use Rattle.std.proofs.Common.{◌≡◌, ◌+◌, [], ℕ, Bool, true, false, cond, List, Option, Some, None, Result, Ok, Err, refl, sym, ◌∙◌, ap, subst}
+use Rattle.std.proofs.Common.{◌≡◌, ◌+◌, [], ℕ, Bool, true, false, cond, List, Option, Some, None, Result, Ok, Err, refl, sym, ◌∙◌, ap, subst, arith}
 use Rattle.std.specs.Option.{option_map, unwrap_or}
 use Rattle.std.specs.Result.{result_ok}
-use Rattle.crash_disk.specs.Disk.{content, MayLeave, FaultPlan, after_calls, passing}
+use Rattle.std.proofs.lemmas.Grind.{common_steps}
+use Rattle.crash_disk.specs.Disk.{content, FaultPlan, after_calls, passing}
 use Rattle.crash_disk.specs.Memory.{MemState, plan_of}
 use Rattle.crash_disk.specs.Outcomes.{image_after}
 use Rattle.crash_disk.specs.declared.outcome.Outcome.{Outcome}
@@ -42,19 +43,11 @@ pub record HalfRan (added : Option (List ℕ)) (old new : Half) : Type 0 where
 
 -- a half that stays
 pub half_stays : (old new : Half) → new.disk ≡ old.disk → new.records ≡ old.records → HalfRan None old new
-half_stays old new disk records = record {
-  records = records;
-  told = ap (λ (d : MemState). d.history) disk;
-  keeps = λ keeps image may. subst (λ (rs : List (List ℕ)). Keeps rs image) (sym records)
-      (keeps image (subst (λ (d : MemState). MayLeave d.history image) disk may));
-  listed = λ none. subst NoneListed (sym disk) none;
-}
+half_stays old new disk records = grind (arith, common_steps) steps 20000
 
 pub half_ran : (added : Option (List ℕ)) (old new : NotesState MemState)
     → Did mem_told mem_plan mem_faults added old None new → HalfRan added (half_of old) (half_of new)
-half_ran None old new did =
-    half_stays (half_of old) (half_of new) (ap (λ (s : NotesState MemState). s.disk) did.1)
-    (ap (λ (s : NotesState MemState). s.records) did.1)
+half_ran None old new did = grind (arith, common_steps, half_stays) steps 20000
 half_ran (Some body) old new did = record {
   records = did.records;
   told = cc did.made.calls;

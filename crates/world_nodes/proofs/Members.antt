@@ -1,17 +1,18 @@
 -- Who a node is.
-use Rattle.std.proofs.Common.{◌≡◌, ◌∷◌, ◌++◌, [], ℕ, List, Option, Some, None, cond, refl, sym, ◌∙◌, ap, subst}
+use Rattle.std.proofs.Common.{◌≡◌, ◌∷◌, [], ℕ, List, Option, Some, None, cond, refl, ◌∙◌, ap, subst, arith}
+use Rattle.std.proofs.lemmas.Grind.{common_steps}
 use Rattle.crash_disk.proofs.Plans.{none_listed}
 use Rattle.plasma_tx.specs.declared.call.RootCall.{RootCall}
 use Rattle.plasma_tx.specs.declared.owner.Owner.{Owner}
 use Rattle.node_rules.specs.declared.identity.WalletIdentity.{WalletIdentity}
-use Rattle.node_rules.specs.WalletRecords.{identity_text, owner_of, who_is}
+use Rattle.node_rules.specs.WalletRecords.{identity_text, who_is}
 use Rattle.world_rules.specs.World.{is_wallet_role, owner_of_node}
 use Rattle.node_replies.specs.Orders.{with_record}
 use Rattle.world_nodes.specs.declared.entry.Site.{Site}
 use Rattle.world_nodes.specs.declared.entry.Site.TheVariants.{Gone}
 use Rattle.world_nodes.specs.declared.entry.Member.{Member}
 use Rattle.world_nodes.specs.declared.entry.Member.TheVariants.{Wallet as WalletMember, Watcher as WatcherMember, Operator as OperatorMember}
-use Rattle.world_nodes.specs.Inside.{NoneListed, Half, no_half, halves_of, view_of, IsWho, IsOf, IsWhole}
+use Rattle.world_nodes.specs.Inside.{NoneListed, Half, no_half, view_of, IsWho, IsOf, IsWhole}
 
 -- the first record says who a wallet is
 first_who : (identity : List ℕ) (others : List (List ℕ)) → who_is (identity ∷ others) ≡ who_is (identity ∷ [])
@@ -28,37 +29,20 @@ pub wallet_owner : {H : Type 0} (hash : H) (name : List ℕ) (account : ℕ) (me
     → IsWhole hash member site
     → (let node = (view_of hash name account member site offers).node in
     Some owner ≡ cond (is_wallet_role node.role) (Some (owner_of_node node)) None)
-wallet_owner hash name account (WalletMember who' owner') site offers who owner is whole =
-    let same : owner' ≡ owner = cc is in
-    ap Some (sym same ∙ (whole.identity.owns ∙ ap owner_of (sym (who_reads who' owner' _ whole.identity))))
-wallet_owner hash name account WatcherMember site offers who owner is whole = absurd (cc is)
-wallet_owner hash name account OperatorMember site offers who owner is whole = absurd (cc is)
+wallet_owner hash name account member site offers who owner is whole =
+    grind (arith, common_steps, who_reads) steps 20000
 
 pub wallet_seed : {H : Type 0} (hash : H) (name : List ℕ) (account : ℕ) (member : Member) (site : Site H)
     (offers : List RootCall) (who : WalletIdentity) (owner : Owner) → member ≡ WalletMember who owner
     → IsWhole hash member site
     → (let node = (view_of hash name account member site offers).node in
     Some who.seed ≡ cond (is_wallet_role node.role) (Some (who_is node.notes).seed) None)
-wallet_seed hash name account (WalletMember who' owner') site offers who owner is whole =
-    let same : who' ≡ who = cc is in
-    let reads : who ≡ who_is (halves_of (WalletMember who' owner') site).notes.records =
-    sym same ∙ sym (who_reads who' owner' _ whole.identity) in
-    ap (λ (w : WalletIdentity). Some w.seed) reads
-wallet_seed hash name account WatcherMember site offers who owner is whole = absurd (cc is)
-wallet_seed hash name account OperatorMember site offers who owner is whole = absurd (cc is)
+wallet_seed hash name account member site offers who owner is whole = grind (arith, common_steps, who_reads) steps 20000
 
 -- a note that is added leaves the node who it is
 pub stays_of : (member : Member) (notes : List (List ℕ)) (added : Option (List ℕ)) → IsOf member notes
     → IsOf member (with_record notes added)
-stays_of (WalletMember who owner) notes None is = is
-stays_of (WalletMember who owner) notes (Some body) is = record {
-  reads = is.reads;
-  owns = is.owns;
-  others = is.others ++ body ∷ [];
-  first = ap (λ (ns : List (List ℕ)). ns ++ body ∷ []) is.first;
-}
-stays_of WatcherMember notes added is = tt
-stays_of OperatorMember notes added is = tt
+stays_of member notes added is = grind (arith, common_steps) steps 20000
 
 -- a node that is lost
 no_listed : (records : List (List ℕ)) → NoneListed (no_half records).disk

@@ -1,5 +1,6 @@
 -- What the calls of an entry do to its node, by the places of the code: the site that was taken, and where one was put.
-use Rattle.std.proofs.Common.{◌≡◌, ◌-◌, [], ℕ, min, true, false, List, Option, None, sym, ◌∙◌, ap, subst}
+use Rattle.std.proofs.Common.{◌≡◌, ◌-◌, [], ℕ, min, true, false, List, Option, None, sym, ◌∙◌, subst, arith}
+use Rattle.std.proofs.lemmas.Grind.{common_steps}
 use Rattle.crash_disk.specs.Memory.{with_fuse}
 use Rattle.crash_disk.specs.Outcomes.{HasPattern}
 use Rattle.crash_disk.specs.declared.outcome.Outcome.{Outcome}
@@ -19,7 +20,7 @@ use Rattle.world_nodes.specs.Orders.{fits, is_opening_order}
 use Rattle.world_rules.specs.Orders.{node_does}
 use Rattle.world_nodes.specs.Nodes.{NodeView, role_of, Spells, IsDone, Crashes}
 use Rattle.world_nodes.specs.Cuts.{Cuts}
-use Rattle.world_nodes.specs.Inside.{crashed, bare_node, down_kind, down_halves, with_disks, up_kind, up_halves, up_hash, Opens, UpDid, IsDownOf, IsCutShort, IsCutOpening, opening_gives, counts_of, end_in, member_kind, view_of, IsWhole}
+use Rattle.world_nodes.specs.Inside.{crashed, bare_node, down_kind, down_halves, with_disks, up_kind, up_halves, up_hash, Opens, UpDid, IsDownOf, IsCutShort, IsCutOpening, opening_gives, counts_of, end_in, view_of, IsWhole}
 use Rattle.world_nodes.proofs.Cuts.{down_is, with_kind}
 use Rattle.world_nodes.proofs.Entries.{command_done, opening_comes, crash_comes, cut_comes, cut_opening_comes}
 
@@ -30,9 +31,7 @@ moved : {H : Type 0} (hash : H) (name : List ℕ) (account : ℕ) (member : Memb
     × IsWhole hash member put
     → P (view_of hash name account member after more) × Spells (view_of hash name account member after more)
     × IsWhole hash member after
-moved {H} hash name account member more after put P is all =
-    subst (λ (s : Site H). P (view_of hash name account member s more)
-    × Spells (view_of hash name account member s more) × IsWhole hash member s) (sym is) all
+moved {H} hash name account member more after put P is all = grind (arith, common_steps) steps 20000
 
 pub command_at : {H : Type 0} (digest : H → List ℕ → List ℕ) (hash : H) (name : List ℕ) (account : ℕ)
     (member : Member) (offers more : List RootCall) (old : NodeView H) (site taken after : Site H) (node new :
@@ -130,10 +129,7 @@ pub cut_fits : {H : Type 0} (hash : H) (name : List ℕ) (account : ℕ) (member
     → fits old.node.role order ≡ true → taken ≡ site → IsDownOf taken down → fused ≡ with_disks (with_fuse fuse) down
     → fits (role_of (down_kind fused)) order ≡ true
 cut_fits {H} hash name account member offers old site taken down fused fuse order is whole fit same at fusing =
-    let kind : down_kind fused ≡ member_kind member =
-    ap down_kind fusing ∙ (with_kind (with_fuse fuse) down
-    ∙ down_is hash member site down (subst (λ (s : Site H). IsDownOf s down) same at) whole) in
-    ap (λ k. fits (role_of k) order) kind ∙ (ap (λ (v : NodeView H). fits v.node.role order) is ∙ fit)
+    grind (arith, common_steps, with_kind, down_is) steps 20000
 
 -- and a node that is up
 pub up_fits : {H : Type 0} (hash : H) (name : List ℕ) (account : ℕ) (member : Member) (offers : List RootCall)
@@ -141,5 +137,4 @@ pub up_fits : {H : Type 0} (hash : H) (name : List ℕ) (account : ℕ) (member 
     → view_of hash name account member site offers ≡ old → IsWhole hash member site
     → fits old.node.role order ≡ true → taken ≡ site → taken ≡ Up node → fits (role_of (up_kind node)) order ≡ true
 up_fits {H} hash name account member offers old site taken node order is whole fit same at =
-    let kind : up_kind node ≡ member_kind member = (subst (IsWhole hash member) (sym same ∙ at) whole).is_site.0 in
-    ap (λ k. fits (role_of k) order) kind ∙ (ap (λ (v : NodeView H). fits v.node.role order) is ∙ fit)
+    grind (arith, common_steps) steps 20000

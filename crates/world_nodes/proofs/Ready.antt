@@ -1,19 +1,20 @@
 -- That nothing but want of memory stops an order of a node in a world, or refuses its disks.
-use Rattle.std.proofs.Common.{◌≡◌, ◌⊎◌, ◌<◌, ◌≤◌, ◌-◌, [], ℕ, true, false, cond, List, length, Option, Some, None, Result, Ok, Err, inl, inr, refl, sym, ◌∙◌, ap, subst, arith}
+use Rattle.std.proofs.Common.{◌≡◌, ◌⊎◌, ◌<◌, ◌≤◌, [], ℕ, true, false, List, Option, Some, None, Result, Ok, Err, inl, inr, refl, sym, ◌∙◌, ap, subst, arith}
 use Rattle.std.specs.Option.{ForSome, option_map, is_some}
 use Rattle.std.specs.Result.{result_ok}
 use Rattle.std.proofs.lemmas.Bool.{false≢true, true≢false}
-use Rattle.crash_disk.specs.Disk.{FaultPlan, content, after_calls, passing}
+use Rattle.std.proofs.lemmas.Grind.{common_steps}
+use Rattle.crash_disk.specs.Disk.{content, after_calls, passing}
 use Rattle.crash_disk.specs.Memory.{MemState, plan_of, with_fuse}
 use Rattle.crash_disk.specs.declared.outcome.Outcome.{Outcome}
 use Rattle.crash_disk.proofs.Left.{content_may_be_left}
 use Rattle.crash_disk.proofs.Plans.{fuse-after_calls, passing-fuse, passing-no_fuse}
-use Rattle.gate_journal.specs.Image.{spelled, journal_in}
+use Rattle.gate_journal.specs.Image.{journal_in}
 use Rattle.gate_journal.specs.Journal.{RefusesOpen}
 use Rattle.node_journal.specs.Notes.{NotesState, Did, Opened}
-use Rattle.node_journal.specs.Role.{Kinds, are_of, front_of, of_kinds, read_of_kinds, role_in}
+use Rattle.node_journal.specs.Role.{Kinds, are_of, read_of_kinds, role_in}
 use Rattle.gate_journal.specs.declared.refusal.JournalRefusal.{JournalRefusal}
-use Rattle.gate_journal.specs.declared.refusal.JournalRefusal.TheVariants.{AlreadyMade as JournalMade, NotJournal as JournalPlace, RecordTooLong as JournalLong, DeviceFault as JournalFault, Closed as JournalClosed, NoMemory as JournalNoMemory}
+use Rattle.gate_journal.specs.declared.refusal.JournalRefusal.TheVariants.{DeviceFault as JournalFault, NoMemory as JournalNoMemory}
 use Rattle.node_journal.specs.declared.stop.Stop.{Stop}
 use Rattle.node_journal.specs.declared.stop.Stop.TheVariants.{Closed, NoMemory, DeviceFault}
 use Rattle.leaf_journal.specs.Records.{leaf_records_of, leaf_records_read_of, leaf_records_in_of}
@@ -40,10 +41,7 @@ use Rattle.world_nodes.proofs.Runs.{KeepsAll}
 -- calls make no fuse
 pub planned-unfused : (count : ℕ) (old new : MemState) → mem_plan new ≡ option_map (after_calls count) (mem_plan old)
     → HasNoFuse old → HasNoFuse new
-planned-unfused count old new is none =
-    let same : plan_of new ≡ after_calls count (plan_of old) = cc is in
-    ap (λ (p : FaultPlan). p.fuse) same
-    ∙ (fuse-after_calls count (plan_of old) ∙ ap (option_map (λ calls. calls - count)) none)
+planned-unfused count old new is none = grind (arith, common_steps, fuse-after_calls) steps 20000
 
 -- ---- what holds of each disk of a node
 
@@ -91,56 +89,31 @@ fused-open fuse (OperatorDown notes) least none =
 refused-one : (read : List ℕ → Result (List (List ℕ)) ℕ) (records : List (List ℕ)) (old new : MemState)
     (why : JournalRefusal) → LetsOpen old → read (content old.history) ≡ Ok records
     → RefusesOpen read mem_told mem_plan old why new → why ≡ JournalNoMemory
-refused-one read records old new JournalFault lets reads refuses =
-    let less : refuses.0 < 3 = refuses.1.planned.0 in
-    let same = refuses.1.planned.1 (plan_of old) refl in
-    absurd (omega (arith, less, same, lets))
-refused-one read records old new (JournalPlace place) lets reads refuses =
-    let wrong = refuses.1 old.history refl in absurd (cc (wrong, reads))
-refused-one read records old new JournalNoMemory lets reads refuses = refl
-refused-one read records old new (JournalMade count) lets reads refuses = absurd refuses
-refused-one read records old new (JournalLong count) lets reads refuses = absurd refuses
-refused-one read records old new JournalClosed lets reads refuses = absurd refuses
+refused-one read records old new why lets reads refuses = grind (arith, common_steps) steps 20000
 
 -- an image that keeps records of a role is read by it
 of-kept : (kinds : Kinds) (records : List (List ℕ)) (read : Result (List (List ℕ)) ℕ)
     → result_ok read ≡ Some records → are_of kinds records ≡ true → read_of_kinds kinds read ≡ Ok records
-of-kept kinds records (Ok found) is are =
-    let same : records ≡ found = cc is in
-    subst (λ (f : List (List ℕ)). of_kinds kinds f ≡ Ok records) same
-    (ap (λ b. cond b (Ok records) (Err (length (spelled (front_of kinds records))))) are)
-of-kept kinds records (Err place) is are = absurd (cc is)
+of-kept kinds records read is are = grind (arith, common_steps) steps 20000
 
 pub role-read : (kinds : Kinds) (records : List (List ℕ)) (disk : MemState) → EachKeeps records disk.history
     → are_of kinds records ≡ true → role_in kinds (content disk.history) ≡ Ok records
-role-read kinds records disk keeps are =
-    of-kept kinds records (journal_in (content disk.history))
-    (keeps (content disk.history) (content_may_be_left disk.history)) are
+role-read kinds records disk keeps are = grind (arith, common_steps, of-kept, content_may_be_left) steps 20000
 
 leaf-kept : (leaves : ℕ) (records : List (List ℕ)) (read : Result (List (List ℕ)) ℕ)
     → result_ok read ≡ Some records → leaf_records_of is_body leaves records ≡ Ok records
     → leaf_records_read_of is_body leaves read ≡ Ok records
-leaf-kept leaves records (Ok found) is are =
-    let same : records ≡ found = cc is in
-    subst (λ (f : List (List ℕ)). leaf_records_of is_body leaves f ≡ Ok records) same are
-leaf-kept leaves records (Err place) is are = absurd (cc is)
+leaf-kept leaves records read is are = grind (arith, common_steps) steps 20000
 
 leaf-read : (leaves : ℕ) (records : List (List ℕ)) (disk : MemState) → EachKeeps records disk.history
     → leaf_records_of is_body leaves records ≡ Ok records
     → leaf_records_in_of is_body leaves (content disk.history) ≡ Ok records
-leaf-read leaves records disk keeps are =
-    leaf-kept leaves records (journal_in (content disk.history))
-    (keeps (content disk.history) (content_may_be_left disk.history)) are
+leaf-read leaves records disk keeps are = grind (arith, common_steps, leaf-kept, content_may_be_left) steps 20000
 
 bound-one : (dig : List ℕ → List ℕ) (leaves notes : List (List ℕ)) (why : JournalRefusal)
     → are_bound_notes (leaves_in leaves) (notes_of dig notes) ≡ true → IsUnbound dig (leaves_in leaves) notes why
     → why ≡ JournalNoMemory
-bound-one dig leaves notes (JournalPlace place) bound unbound = absurd (true≢false (sym bound ∙ unbound.0))
-bound-one dig leaves notes JournalNoMemory bound unbound = refl
-bound-one dig leaves notes JournalFault bound unbound = absurd unbound
-bound-one dig leaves notes (JournalMade count) bound unbound = absurd unbound
-bound-one dig leaves notes (JournalLong count) bound unbound = absurd unbound
-bound-one dig leaves notes JournalClosed bound unbound = absurd unbound
+bound-one dig leaves notes why bound unbound = grind (arith, common_steps, true≢false) steps 20000
 
 -- a wallet's two disks
 module _ (dig : List ℕ → List ℕ) (notes leaves : MemState) (wallet : WalletRecords) (first : LetsOpen notes)
@@ -153,17 +126,14 @@ module _ (dig : List ℕ → List ℕ) (notes leaves : MemState) (wallet : Walle
 
   behind-read : (records : List (List ℕ)) → wallet.notes ≡ records
       → leaf_records_in_of is_body (key_leaves records) (content leaves.history) ≡ Ok wallet.leaves
-  behind-read records same =
-      subst (λ (rs : List (List ℕ)). leaf_records_in_of is_body (key_leaves rs) (content leaves.history)
-      ≡ Ok wallet.leaves) same leaves-read
+  behind-read records same = grind (arith, common_steps) steps 20000
 
   wallet-refused : (why : JournalRefusal) (new_notes new_leaves : MemState)
       → RefusesWallet mem_told mem_plan mem_faults dig notes leaves why new_notes new_leaves → why ≡ JournalNoMemory
   wallet-refused why new_notes new_leaves (inl (refuses, same)) =
       refused-one (role_in (wallet_kinds dig)) wallet.notes notes new_notes why first notes-read refuses.refused
   wallet-refused why new_notes new_leaves (inr (opened, opens, (same, inl refuses))) =
-      refused-one (leaf_records_in_of is_body (key_leaves opened.records)) wallet.leaves leaves new_leaves why second
-      (behind-read opened.records (opened-same opened opens)) refuses.refused
+      grind (arith, common_steps, refused-one, behind-read, opened-same) steps 20000
   wallet-refused why new_notes new_leaves (inr (opened, opens, (same, inr (behind, opens_leaves, at, unbound)))) =
       let of_notes = opened-same opened opens in
       let read = behind-read opened.records of_notes in
@@ -185,11 +155,9 @@ may-open dig (WalletDown notes leaves key) lets keeps role why (WalletDown new_n
     (leaf-read (key_leaves (kept_of notes.history)) (kept_of leaves.history) leaves
     (keeps.leaves (kept_half leaves) refl) parts.leaves) parts.bound why new_notes new_leaves refuses
 may-open dig (WatcherDown notes) lets keeps role why (WatcherDown new) refuses =
-    refused-one (role_in (watcher_kinds dig)) (kept_of notes.history) notes new why lets.notes
-    (role-read (watcher_kinds dig) (kept_of notes.history) notes keeps.notes role) refuses.refused
+    grind (arith, common_steps, refused-one, role-read) steps 20000
 may-open dig (OperatorDown notes) lets keeps role why (OperatorDown new) refuses =
-    refused-one (role_in operator_kinds) (kept_of notes.history) notes new why lets.notes
-    (role-read operator_kinds (kept_of notes.history) notes keeps.notes role) refuses.refused
+    grind (arith, common_steps, refused-one, role-read) steps 20000
 may-open dig (WalletDown notes leaves key) lets keeps role why (WatcherDown new) refuses = absurd refuses
 may-open dig (WalletDown notes leaves key) lets keeps role why (OperatorDown new) refuses = absurd refuses
 may-open dig (WatcherDown notes) lets keeps role why (WalletDown new_notes new_leaves new_key) refuses = absurd refuses
@@ -207,23 +175,12 @@ module _ (calls : ℕ) (few : calls < 3) where
 
   not-opened : (read : List ℕ → Result (List (List ℕ)) ℕ) (disk : MemState) (new : NotesState MemState)
       → NoneListed disk → Opened mem_told mem_plan mem_faults read (with_fuse calls disk) new → ⊥
-  not-opened read disk new none opened =
-      let pass = opened.made.planned.0 (plan_of (with_fuse calls disk)) refl in
-      let less = few-pass disk none in
-      absurd (omega (arith, pass, less))
+  not-opened read disk new none opened = grind (arith, common_steps, few-pass) steps 20000
 
   stopped-one : (read : List ℕ → Result (List (List ℕ)) ℕ) (disk new : MemState) (why : JournalRefusal)
       → NoneListed disk → RefusesOpen read mem_told mem_plan (with_fuse calls disk) why new
       → (why ≡ JournalFault) ⊎ (why ≡ JournalNoMemory)
-  stopped-one read disk new JournalFault none refuses = inl refl
-  stopped-one read disk new (JournalPlace place) none refuses =
-      let pass = refuses.0.planned.0 (plan_of (with_fuse calls disk)) refl in
-      let less = few-pass disk none in
-      absurd (omega (arith, pass, less))
-  stopped-one read disk new JournalNoMemory none refuses = inr refl
-  stopped-one read disk new (JournalMade count) none refuses = absurd refuses
-  stopped-one read disk new (JournalLong count) none refuses = absurd refuses
-  stopped-one read disk new JournalClosed none refuses = absurd refuses
+  stopped-one read disk new why none refuses = grind (arith, common_steps, few-pass) steps 20000
 
   stops-opening : (H : Type 0) (dig : List ℕ → List ℕ) (down : DownNode) → NoneListedOf (down_halves down)
       → (up : UpNode H) → Opens dig (with_disks (with_fuse calls) down) up → ⊥
@@ -272,18 +229,15 @@ stop-one None old new DeviceFault none unfused open' did = absurd did
 stop-one (Some body) old new DeviceFault none unfused open' did =
     let less : did.passed < 4 = did.made.planned.0 in
     let same = did.made.planned.1 (plan_of old.disk) refl in
-    let all = passing-no_fuse 4 (plan_of old.disk) none.listed unfused in
-    absurd (omega (arith, less, same, all))
+    grind (arith, common_steps, passing-no_fuse) steps 20000
 stop-one added old new Closed none unfused open' did = absurd (false≢true (sym open' ∙ did.0))
 stop-one added old new NoMemory none unfused open' did = refl
 
 either-stops : {H : Type 0} (note leaf : Option (List ℕ)) (old new : WalletState MemState H) (stop : Stop)
     → NoneListed old.notes_disk → NoneListed old.leaves_disk → HasNoFuse old.notes_disk → HasNoFuse old.leaves_disk
     → old.closed ≡ false → DidEither mem_told mem_plan mem_faults leaf note old (Some stop) new → stop ≡ NoMemory
-either-stops added None old new stop none none' unfused unfused' open' did =
-    stop-one added (notes_part old) (notes_part new) stop none unfused open' did.did
-either-stops added (Some leaf) old new stop none none' unfused unfused' open' did =
-    stop-one (Some leaf) (leaves_part old) (leaves_part new) stop none' unfused' open' did.did
+either-stops added leaf old new stop none none' unfused unfused' open' did =
+    grind (arith, common_steps, stop-one) steps 20000
 
 pub runs-on : {H : Type 0} (node : UpNode H) → NoneListedOf (up_halves node) → NoFuses (up_halves node)
     → up_closed node ≡ false → RunsOn node
@@ -304,15 +258,7 @@ runs-on (OperatorUp old) none unfused open' deed stop (WatcherUp new) did = absu
 -- a node that was opened is open
 pub opened-open : {H : Type 0} (dig : List ℕ → List ℕ) (down : DownNode) (up : UpNode H) → Opens dig down up
     → up_closed up ≡ false
-opened-open dig (WalletDown notes leaves key) (WalletUp node) opens = opens.opens_notes.is_open
-opened-open dig (WatcherDown notes) (WatcherUp node) opens = opens.is_open
-opened-open dig (OperatorDown notes) (OperatorUp node) opens = opens.is_open
-opened-open dig (WalletDown notes leaves key) (WatcherUp node) opens = absurd opens
-opened-open dig (WalletDown notes leaves key) (OperatorUp node) opens = absurd opens
-opened-open dig (WatcherDown notes) (WalletUp node) opens = absurd opens
-opened-open dig (WatcherDown notes) (OperatorUp node) opens = absurd opens
-opened-open dig (OperatorDown notes) (WalletUp node) opens = absurd opens
-opened-open dig (OperatorDown notes) (WatcherUp node) opens = absurd opens
+opened-open dig down up opens = grind (arith, common_steps) steps 20000
 
 -- ---- causes
 
@@ -332,11 +278,7 @@ opens-not H dig down other up stops is opens =
 pub stop-why-at : (H : Type 0) (dig : List ℕ → List ℕ) (down other left : DownNode) (why : JournalRefusal)
     → IsToStop H dig down → down ≡ other → RefusesDown dig other why left → (why ≡ JournalFault → ⊥)
     → why ≡ JournalNoMemory
-stop-why-at H dig down other left why stops is refuses no_fault =
-    elim (stops.refused why left (subst (λ (d : DownNode). RefusesDown dig d why left) (sym is) refuses)) [
-      | inl fault ↦ absurd (no_fault fault)
-      | inr memory ↦ memory
-    ]
+stop-why-at H dig down other left why stops is refuses no_fault = grind (arith, common_steps) steps 20000
 
 -- an order of a node that was closed found it so
 closed-either : {H : Type 0} (note leaf : Option (List ℕ)) (old new : WalletState MemState H)
@@ -345,23 +287,13 @@ closed-either added None old new did = did.did.0
 closed-either added (Some leaf) old new did = did.did.0
 
 was-closed : {H : Type 0} (deed : Doing) (old new : UpNode H) → UpDid deed old (Some Closed) new → up_closed old ≡ true
-was-closed deed (WalletUp old) (WalletUp new) did = closed-either deed.note deed.leaf old new did
-was-closed deed (WatcherUp old) (WatcherUp new) did = did.0.0
-was-closed deed (OperatorUp old) (OperatorUp new) did = did.0.0
-was-closed deed (WalletUp old) (WatcherUp new) did = absurd did
-was-closed deed (WalletUp old) (OperatorUp new) did = absurd did
-was-closed deed (WatcherUp old) (WalletUp new) did = absurd did
-was-closed deed (WatcherUp old) (OperatorUp new) did = absurd did
-was-closed deed (OperatorUp old) (WalletUp new) did = absurd did
-was-closed deed (OperatorUp old) (WatcherUp new) did = absurd did
+was-closed deed old new did = grind (arith, common_steps, closed-either) steps 20000
 
 -- so none of a node that was just opened
 pub closed-never : {H : Type 0} (dig : List ℕ → List ℕ) (down : DownNode) (opened new : UpNode H) (deed : Doing)
     (stop : Stop) → Opens dig down opened → stop ≡ Closed → UpDid deed opened (Some stop) new → ⊥
 closed-never {H} dig down opened new deed stop opens is did =
-    let closed = was-closed deed opened new
-    (subst (λ (s : Stop). UpDid deed opened (Some s) new) is did) in
-    false≢true (sym (opened-open dig down opened opens) ∙ closed)
+    grind (arith, common_steps, was-closed, false≢true, opened-open) steps 20000
 
 -- ---- no fuse comes
 
@@ -375,10 +307,7 @@ ran-one (Some body) old new did unfused = planned-unfused 4 old.disk new.disk di
 either-ran : {H : Type 0} (note leaf : Option (List ℕ)) (old new : WalletState MemState H)
     → DidEither mem_told mem_plan mem_faults leaf note old None new → HasNoFuse old.notes_disk
     → HasNoFuse old.leaves_disk → HasNoFuse new.notes_disk × HasNoFuse new.leaves_disk
-either-ran added None old new did unfused unfused' = (
-  ran-one added (notes_part old) (notes_part new) did.did unfused,
-  subst HasNoFuse (sym did.disk) unfused',
-)
+either-ran added None old new did unfused unfused' = grind (arith, common_steps, ran-one) steps 20000
 either-ran added (Some leaf) old new did unfused unfused' = (
   subst HasNoFuse (sym did.disk) unfused,
   ran-one (Some leaf) (leaves_part old) (leaves_part new) did.did unfused',
@@ -387,8 +316,7 @@ either-ran added (Some leaf) old new did unfused unfused' = (
 pub ran-unfused : {H : Type 0} (deed : Doing) (old new : UpNode H) → UpDid deed old None new
     → NoFuses (up_halves old) → NoFuses (up_halves new)
 ran-unfused deed (WalletUp old) (WalletUp new) did unfused =
-    let by = either-ran deed.note deed.leaf old new did unfused.notes (unfused.leaves _ refl) in
-    record { notes = by.0; leaves = of-half HasNoFuse _ by.1 }
+    grind (arith, common_steps, either-ran, of-half) steps 20000
 ran-unfused deed (WatcherUp old) (WatcherUp new) did unfused =
     record { notes = ran-one deed.note old.notes new.notes did.0 unfused.notes; leaves = of-none HasNoFuse }
 ran-unfused deed (OperatorUp old) (OperatorUp new) did unfused =
@@ -424,17 +352,12 @@ opened-unfused dig (OperatorDown notes) (WatcherUp node) opens unfused = absurd 
 
 pub crashed-unfused : (outcome : Outcome) (down : DownNode)
     → NoFuses (down_halves (with_disks (crashed outcome) down))
-crashed-unfused outcome (WalletDown notes leaves key) =
-    record { notes = refl; leaves = of-half HasNoFuse (kept_half (crashed outcome leaves)) refl }
-crashed-unfused outcome (WatcherDown notes) = record { notes = refl; leaves = of-none HasNoFuse }
-crashed-unfused outcome (OperatorDown notes) = record { notes = refl; leaves = of-none HasNoFuse }
+crashed-unfused outcome down = grind (arith, common_steps, of-half, of-none) steps 20000
 
 -- ---- journals
 
 kept-journal : (records : List (List ℕ)) (disk : MemState) → EachKeeps records disk.history → HasJournal disk
-kept-journal records disk keeps =
-    ap (λ (k : Option (List (List ℕ))). is_some k)
-    (keeps (content disk.history) (content_may_be_left disk.history))
+kept-journal records disk keeps = grind (arith, common_steps, content_may_be_left) steps 20000
 
 pub keeps-journals : (halves : Halves) → KeepsAll halves → HaveJournals halves
 keeps-journals halves keeps = record {

@@ -1,6 +1,7 @@
 -- What the calls of an entry need of its disks, and leave them, by the places of the code.
-use Rattle.std.proofs.Common.{◌≡◌, ◌<◌, ◌≤◌, ◌^◌, ◌∷◌, [], ℕ, false, List, None, refl, sym, ◌∙◌, ap, subst}
+use Rattle.std.proofs.Common.{◌≡◌, ◌<◌, ◌≤◌, ◌^◌, ◌∷◌, [], ℕ, false, List, None, refl, sym, ◌∙◌, ap, subst, arith}
 use Rattle.std.specs.List.{All}
+use Rattle.std.proofs.lemmas.Grind.{common_steps}
 use Rattle.crash_disk.specs.Disk.{content}
 use Rattle.crash_disk.specs.Memory.{with_fuse}
 use Rattle.crash_disk.specs.declared.outcome.Outcome.{Outcome}
@@ -8,17 +9,15 @@ use Rattle.crash_disk.proofs.Left.{content_may_be_left}
 use Rattle.plasma_tx.specs.declared.call.RootCall.{RootCall}
 use Rattle.plasma_tx.specs.Spelling.{AreBytes}
 use Rattle.plasma_tx.specs.Views.{blocks}
-use Rattle.node_rules.specs.Wallet.{WalletRecords}
 use Rattle.node_rules.specs.WalletCommandLaws.{FitWords}
 use Rattle.world_rules.specs.World.{wallet_of}
 use Rattle.node_replies.specs.Orders.{Doing}
-use Rattle.world_nodes.specs.declared.order.NodeKind.{NodeKind}
 use Rattle.node_replies.specs.declared.order.NodeOrder.{NodeOrder}
 use Rattle.world_nodes.specs.declared.order.CutEnd.{CutEnd}
 use Rattle.world_nodes.specs.declared.down.DownNode.{DownNode}
 use Rattle.world_nodes.specs.declared.up.UpNode.{UpNode}
 use Rattle.world_nodes.specs.declared.entry.Site.{Site}
-use Rattle.world_nodes.specs.declared.entry.Site.TheVariants.{Up, Down, Gone}
+use Rattle.world_nodes.specs.declared.entry.Site.TheVariants.{Up, Down}
 use Rattle.world_nodes.specs.declared.entry.Member.{Member}
 use Rattle.world_rules.specs.Orders.{node_does}
 use Rattle.world_nodes.specs.Nodes.{with_records, NodeView, role_of, Spells, AreOf, IsOfRole, Crashes}
@@ -60,13 +59,7 @@ module _ {H : Type 0} (digest : H → List ℕ → List ℕ) (hash : H) (name : 
 
     down-role : IsOfRole (digest old.hash) old.node
         → AreOf (digest hash) (role_of (down_kind down)) (records_in (down_halves down))
-    down-role role =
-        let here : IsOfRole (digest hash) (view_of hash name account member site offers).node =
-        subst (λ (v : NodeView H). IsOfRole (digest v.hash) v.node) (sym is) role in
-        subst (λ (k : NodeKind). AreOf (digest hash) (role_of k) (records_in (down_halves down)))
-        (sym (down_is hash member site down down-at whole))
-        (subst (λ (h : Halves). AreOf (digest hash) (role_of (member_kind member)) (records_in h)) (sym halves-same)
-        here)
+    down-role role = grind (arith, common_steps, down_is, down-at, halves-same) steps 20000
 
     -- they are opened as they are, and with a fuse that lets three calls pass; with a shorter one they aren't
     pub opens-at : IsOfRole (digest old.hash) old.node → NoFuses (down_halves down) → MayOpen (digest hash) down
@@ -76,11 +69,7 @@ module _ {H : Type 0} (digest : H → List ℕ → List ℕ) (hash : H) (name : 
     fused-role : (fuse : ℕ) → IsOfRole (digest old.hash) old.node
         → AreOf (digest hash) (role_of (down_kind (with_disks (with_fuse fuse) down)))
         (records_in (down_halves (with_disks (with_fuse fuse) down)))
-    fused-role fuse role =
-        subst (λ (k : NodeKind). AreOf (digest hash) (role_of k)
-        (records_in (down_halves (with_disks (with_fuse fuse) down)))) (sym (with_kind (with_fuse fuse) down))
-        (subst (λ (r : WalletRecords). AreOf (digest hash) (role_of (down_kind down)) r) (sym (fused_same fuse down))
-        (down-role role))
+    fused-role fuse role = grind (arith, common_steps, with_kind, fused_same, down-role) steps 20000
 
     pub fused-opens-at : (fuse : ℕ) (fused : DownNode) → fused ≡ with_disks (with_fuse fuse) down → 3 ≤ fuse
         → IsOfRole (digest old.hash) old.node → MayOpen (digest hash) fused
@@ -116,10 +105,7 @@ module _ {H : Type 0} (digest : H → List ℕ → List ℕ) (hash : H) (name : 
       (crashes : new ≡ with_disks (crashed outcome) ran) (role : IsOfRole (digest old.hash) old.node) where
     pub crash-ready : Crashes outcome old (view_of hash name account member after more)
         → IsReady (digest hash) (role_of (member_kind member)) after
-    crash-ready crashed_so =
-        down-ready digest hash name account member after more ran new outcome put crashes
-        (crash-role (digest hash) outcome old (view_of hash name account member after more) crashed_so
-        (role-here role))
+    crash-ready crashed_so = grind (arith, common_steps, down-ready, crash-role, role-here) steps 20000
 
     pub cut-ready : (log : List RootCall) (calls : ℕ) (order : NodeOrder) (end : CutEnd)
         → Cuts (digest old.hash) log calls outcome order old end (view_of hash name account member after more)
@@ -129,8 +115,7 @@ module _ {H : Type 0} (digest : H → List ℕ → List ℕ) (hash : H) (name : 
         let left = cut-role (digest old.hash) log calls outcome order old end
         (view_of hash name account member after more) cuts role added in
         down-ready digest hash name account member after more ran new outcome put crashes
-        (subst (λ (h : H). IsOfRole (digest h) (view_of hash name account member after more).node)
-        (sym (ap (λ (v : NodeView H). v.hash) is)) left)
+        (grind (arith, common_steps) steps 20000)
 
 -- ---- the role of an entry that isn't lost
 
@@ -140,28 +125,18 @@ module _ {H : Type 0} (digest : H → List ℕ → List ℕ) (hash : H) (name : 
   seen : (other : Site H) → site ≡ other
       → IsOfRole (digest hash) (view_of hash name account member other offers).node
       → IsOfRole (digest old.hash) old.node
-  seen other at role =
-      subst (λ (v : NodeView H). IsOfRole (digest v.hash) v.node) is
-      (subst (λ (s : Site H). IsOfRole (digest hash) (view_of hash name account member s offers).node) (sym at) role)
+  seen other at role = grind (arith, common_steps) steps 20000
 
   pub role-up : (node : UpNode H) → site ≡ Up node
       → AreOf (digest (up_hash node)) (role_of (up_kind node)) (records_in (up_halves node))
       → IsOfRole (digest old.hash) old.node
-  role-up node at role =
-      let whole = (subst (IsEntry digest hash member) at entry).0 in
-      seen (Up node) at
-      (subst (λ (k : NodeKind). AreOf (digest hash) (role_of k) (records_in (up_halves node))) whole.is_site.0
-      (subst (λ (h : H). AreOf (digest h) (role_of (up_kind node)) (records_in (up_halves node))) whole.is_site.1
-      role))
+  role-up node at role = grind (arith, common_steps, seen) steps 20000
 
   pub role-down : (down : DownNode) → site ≡ Down down → IsOfRole (digest old.hash) old.node
   role-down down at = seen (Down down) at (subst (IsEntry digest hash member) at entry).1.1
 
   site-role : Spells old → (s : Site H) → site ≡ s → IsWholeSite digest s → IsOfRole (digest old.hash) old.node
-  site-role spells (Up node) at role = role-up node at role
-  site-role spells (Down down) at role = role-down down at
-  site-role spells Gone at role =
-      absurd (subst IsThere at (there hash name account member site offers (subst Spells (sym is) spells)))
+  site-role spells s at role = grind (arith, common_steps, role-up, role-down, there) steps 20000
 
   -- so it is at each site, where the records of a node that is up are of its role
   pub role-at : Spells old → IsWholeSite digest site → IsOfRole (digest old.hash) old.node
@@ -183,18 +158,14 @@ module _ {H : Type 0} (digest : H → List ℕ → List ℕ) (hash : H) (member 
 
   pub ran-ready : (node new : UpNode H) (after : Site H) (deed : Doing) → taken ≡ Up node → UpDid deed node None new
       → after ≡ Up new → IsReady (digest hash) (role_of (member_kind member)) after
-  ran-ready node new after deed at did put =
-      subst (IsReady (digest hash) (role_of (member_kind member))) (sym put)
-      (ran-unfused deed node new did (up-entry node at).1)
+  ran-ready node new after deed at did put = grind (arith, common_steps, ran-unfused, up-entry) steps 20000
 
   pub unfused-at : (down : DownNode) → taken ≡ Down down → NoFuses (down_halves down)
   unfused-at down at = (subst (IsEntry digest hash member) (sym same ∙ at) entry).1.0
 
   pub opened-ready : (down : DownNode) (up : UpNode H) (after : Site H) → taken ≡ Down down
       → Opens (digest hash) down up → after ≡ Up up → IsReady (digest hash) (role_of (member_kind member)) after
-  opened-ready down up after at opens put =
-      subst (IsReady (digest hash) (role_of (member_kind member))) (sym put)
-      (opened-unfused (digest hash) down up opens (unfused-at down at))
+  opened-ready down up after at opens put = grind (arith, common_steps, opened-unfused, unfused-at) steps 20000
 
 -- ---- nodes that are declared
 
@@ -206,12 +177,8 @@ declared-opens dig member down is =
       leaves = λ half at. (is.begun.leaves half at).listed;
     } in
     may-open dig down (unfused-open (down_halves down) none is.unfused) (begun_keeps (first_note down) down is.begun)
-    (subst (λ (k : NodeKind). AreOf dig (role_of k) (records_in (down_halves down))) (sym is.kind)
-    (subst (λ (r : WalletRecords). AreOf dig (role_of (member_kind member)) r) (alone down is) (is.role dig)))
+    (grind (arith, common_steps, alone) steps 20000)
   where
     alone : (down : DownNode) → IsDeclared member down
         → record { notes = first_note down ∷ []; leaves = [] } ≡ records_in (down_halves down)
-    alone down is = λ i. record {
-      notes = sym is.begun.notes.records_are i;
-      leaves = sym (begun_records (down_halves down).leaves is.begun.leaves) i;
-    }
+    alone down is = grind (arith, common_steps, begun_records) steps 20000

@@ -1,9 +1,10 @@
 -- That the records of a node in a world are of its role.
-use Rattle.std.proofs.Common.{◌≡◌, ◌<◌, ◌&&◌, ◌∷◌, ◌++◌, [], ℕ, Bool, true, false, if◌then◌else◌, List, length, w32, Option, Some, sym, ap, subst}
+use Rattle.std.proofs.Common.{◌≡◌, ◌<◌, ◌&&◌, ◌∷◌, ◌++◌, [], ℕ, Bool, true, false, if◌then◌else◌, List, length, w32, Option, Some, sym, ap, subst, arith}
 use Rattle.std.specs.Int.{to_be_bytes}
 use Rattle.std.specs.Option.{is_some}
 use Rattle.std.specs.List.{All, AllByRecursion}
 use Rattle.std.proofs.lemmas.List.Elements.{All-from_recursion, recursion_from_All}
+use Rattle.std.proofs.lemmas.Grind.{common_steps}
 use Rattle.crash_disk.specs.declared.outcome.Outcome.{Outcome}
 use Rattle.crash_disk.proofs.Left.{content_may_be_left}
 use Rattle.gate_journal.specs.Image.{mark, spelled, spelled_record, spelled_records, kept_records}
@@ -35,14 +36,13 @@ use Rattle.world_nodes.specs.declared.order.CutEnd.{CutEnd}
 use Rattle.world_nodes.specs.declared.order.CutEnd.TheVariants.{Down as CutDown, Stopped as CutStopped, Done as CutDone}
 use Rattle.world_nodes.specs.declared.down.DownNode.{DownNode}
 use Rattle.world_nodes.specs.declared.entry.Site.{Site}
-use Rattle.world_nodes.specs.declared.entry.Site.TheVariants.{Up, Down, Gone}
+use Rattle.world_nodes.specs.declared.entry.Site.TheVariants.{Down, Gone}
 use Rattle.world_nodes.specs.declared.entry.Member.{Member}
-use Rattle.world_nodes.specs.declared.entry.Member.TheVariants.{Wallet as WalletMember, Watcher as WatcherMember, Operator as OperatorMember}
 use Rattle.world_nodes.specs.Orders.{fits, IsFit}
 use Rattle.world_rules.specs.Orders.{node_does}
 use Rattle.world_nodes.specs.Nodes.{with_records, NodeView, role_of, Spells, AreOf, IsOfRole, Crashes}
-use Rattle.world_nodes.specs.Cuts.{Cuts, is_kept}
-use Rattle.world_nodes.specs.Inside.{NoFuses, crashed, down_halves, with_disks, empty_disk, member_kind, view_of, IsThere, IsReady, IsEntry, IsIdentityOf}
+use Rattle.world_nodes.specs.Cuts.{Cuts}
+use Rattle.world_nodes.specs.Inside.{crashed, with_disks, member_kind, view_of, IsThere, IsReady, IsEntry, IsIdentityOf}
 use Rattle.world_nodes.proofs.Members.{lost}
 use Rattle.world_nodes.proofs.Ready.{crashed-unfused}
 
@@ -62,8 +62,7 @@ spelled-bytes [] all = tt
 spelled-bytes (body ∷ records) all =
     let both = parts IsByte (spelled_record body) (spelled_records records) all in (
       All-from_recursion IsByte body (parts IsByte (165 ∷ to_be_bytes w32 (length body)) body both.0).1,
-      spelled-bytes
-          records both.1,
+      grind (arith, common_steps, spelled-bytes records both.1) steps 20000,
     )
 
 -- the records on a disk are bytes
@@ -114,14 +113,7 @@ role-after dig log node Operator (WatcherOrdered order) is fit words all = absur
 -- a node whose disks keep its records isn't lost
 pub there : {H : Type 0} (hash : H) (name : List ℕ) (account : ℕ) (member : Member) (site : Site H)
     (offers : List RootCall) → Spells (view_of hash name account member site offers) → IsThere site
-there hash name account member (Up node) offers spells = tt
-there hash name account member (Down down) offers spells = tt
-there hash name account (WalletMember who owner) Gone offers spells =
-    let wrong = spells.notes [] (content_may_be_left empty_disk.history) in absurd (cc wrong)
-there hash name account WatcherMember Gone offers spells =
-    let wrong = spells.notes [] (content_may_be_left empty_disk.history) in absurd (cc wrong)
-there hash name account OperatorMember Gone offers spells =
-    let wrong = spells.notes [] (content_may_be_left empty_disk.history) in absurd (cc wrong)
+there hash name account member site offers spells = grind (arith, common_steps, content_may_be_left) steps 20000
 
 -- a site that was taken is lost
 pub lost-entry : {H : Type 0} (digest : H → List ℕ → List ℕ) (hash : H) (member : Member) (site after : Site H)
@@ -137,10 +129,7 @@ pub down-ready : {H : Type 0} (digest : H → List ℕ → List ℕ) (hash : H) 
     → IsReady (digest hash) (role_of (member_kind member))
     after
 down-ready {H} digest hash name account member after offers ran new outcome at crashes role =
-    let role' = subst (λ (s : Site H). IsOfRole (digest hash) (view_of hash name account member s offers).node) at
-    role in
-    let unfused = subst (λ (d : DownNode). NoFuses (down_halves d)) (sym crashes) (crashed-unfused outcome ran) in
-    subst (IsReady (digest hash) (role_of (member_kind member))) (sym at) (unfused, role')
+    grind (arith, common_steps, crashed-unfused) steps 20000
 
 -- the node's records are of its role after a crash, and after a cut of an order that keeps them so
 pub crash-role : {H : Type 0} (dig : List ℕ → List ℕ) (outcome : Outcome) (old new : NodeView H)
@@ -154,8 +143,7 @@ pub cut-role : {H : Type 0} (dig : List ℕ → List ℕ) (log : List RootCall) 
 cut-role dig log calls outcome order old CutDown new cuts before after =
     subst (λ (v : NodeView _). IsOfRole dig v.node) (sym cuts.1) before
 cut-role dig log calls outcome order old (CutStopped kept) new cuts before after =
-    let deed = node_does dig log old.node order in
-    subst (IsOfRole dig) (sym cuts.node) (by (is_kept calls outcome order))
+    grind (arith, common_steps, by) steps 20000
   where
     by : (b : Bool)
         → IsOfRole dig (after_crash (if b then with_records old.node (node_does dig log old.node order) else old.node))

@@ -1,7 +1,7 @@
 -- What orders and openings do to the halves of a node, and so to the node.
-use Rattle.std.proofs.Common.{◌≡◌, ◌⊎◌, [], ℕ, Bool, true, false, List, Option, Some, None, inl, inr, refl, sym, ◌∙◌, ap, subst}
+use Rattle.std.proofs.Common.{◌≡◌, ◌⊎◌, [], ℕ, Bool, true, false, List, Option, Some, None, refl, sym, ◌∙◌, ap, subst, arith}
 use Rattle.std.specs.Option.{ForSome, option_map, option_map_or, is_some}
-use Rattle.crash_disk.specs.Disk.{History}
+use Rattle.std.proofs.lemmas.Grind.{common_steps}
 use Rattle.crash_disk.specs.Memory.{MemState}
 use Rattle.node_journal.specs.Notes.{NotesState}
 use Rattle.node_journal.specs.Role.{role_in}
@@ -13,7 +13,7 @@ use Rattle.node_rules.specs.WalletOpening.{leaves_of as key_leaves}
 use Rattle.operator_rules.specs.Records.{operator_kinds}
 use Rattle.wallet_node.specs.State.{WalletState, notes_part, leaves_part}
 use Rattle.world_rules.specs.World.{Role, Node, is_wallet_role, wallet_of}
-use Rattle.node_replies.specs.Orders.{Doing, with_record, wallet_does, watcher_does, operator_does}
+use Rattle.node_replies.specs.Orders.{Doing, with_record}
 use Rattle.node_replies.specs.declared.given.Given.{Given}
 use Rattle.node_replies.specs.Given.{IsGiven}
 use Rattle.node_deeds.specs.WalletOrders.{DidEither}
@@ -21,7 +21,7 @@ use Rattle.node_deeds.proofs.WalletOrderLaws.{orders_add_one_record}
 use Rattle.node_deeds.proofs.WatcherOrderLaws.{orders_add_no_leaf as watchers_add_no_leaf}
 use Rattle.node_deeds.proofs.OperatorOrderLaws.{orders_add_no_leaf as operators_add_no_leaf}
 use Rattle.node_replies.specs.declared.order.NodeOrder.{NodeOrder}
-use Rattle.node_replies.specs.declared.order.NodeOrder.TheVariants.{Wallet as WalletOrdered, Watcher as WatcherOrdered, Operator as OperatorOrdered, Open}
+use Rattle.node_replies.specs.declared.order.NodeOrder.TheVariants.{Open}
 use Rattle.world_nodes.specs.declared.down.DownNode.{DownNode}
 use Rattle.world_nodes.specs.declared.down.DownNode.TheVariants.{Wallet as WalletDown, Watcher as WatcherDown, Operator as OperatorDown}
 use Rattle.world_nodes.specs.declared.up.UpNode.{UpNode}
@@ -46,18 +46,12 @@ all_keep : (leaves : Option Half)
     → ForSome (option_map (λ (half : Half). half.disk.history) leaves)
     (EachKeeps (option_map_or (λ (half : Half). half.records) leaves []))
     → ForSome leaves (λ half. EachKeeps half.records half.disk.history)
-all_keep None keeps = λ half is. absurd (cc is)
-all_keep (Some leaves) keeps = λ half is.
-    (let same : leaves ≡ half = cc is in
-    subst (λ (h : Half). EachKeeps h.records h.disk.history) same (keeps leaves.disk.history refl))
+all_keep leaves keeps = grind (arith, common_steps) steps 20000
 
 each_keeps : (leaves : Option Half) → ForSome leaves (λ half. EachKeeps half.records half.disk.history)
     → ForSome (option_map (λ (half : Half). half.disk.history) leaves)
     (EachKeeps (option_map_or (λ (half : Half). half.records) leaves []))
-each_keeps None keeps = λ disk is. absurd (cc is)
-each_keeps (Some leaves) keeps = λ disk is.
-    (let same : leaves.disk.history ≡ disk = cc is in
-    subst (λ (h : History). EachKeeps leaves.records h) same (keeps leaves refl))
+each_keeps leaves keeps = grind (arith, common_steps) steps 20000
 
 -- wallets alone have leaves, and so a disk of them
 abbrev pub HaveLeaves : Role → Halves → Type 0
@@ -68,14 +62,10 @@ disk_there None = refl
 disk_there (Some leaves) = refl
 
 up_leaves : {H : Type 0} (node : UpNode H) → HaveLeaves (role_of (up_kind node)) (up_halves node)
-up_leaves (WalletUp node) = refl
-up_leaves (WatcherUp node) = refl
-up_leaves (OperatorUp node) = refl
+up_leaves node = grind (arith, common_steps) steps 20000
 
 down_leaves : (down : DownNode) → HaveLeaves (role_of (down_kind down)) (down_halves down)
-down_leaves (WalletDown notes leaves key) = refl
-down_leaves (WatcherDown notes) = refl
-down_leaves (OperatorDown notes) = refl
+down_leaves down = grind (arith, common_steps) steps 20000
 
 -- so it is of an entry that is whole
 pub up_has : {H : Type 0} (hash : H) (member : Member) (node : UpNode H) → IsWhole hash member (Up node)
@@ -131,33 +121,14 @@ AddsFew deed node = deed.leaf ≡ None
 pub adds_few : {H : Type 0} (dig : List ℕ → List ℕ) (log : List RootCall) (bare : Node) (node : UpNode H)
     (order : NodeOrder) → fits (role_of (up_kind node)) order ≡ true → is_opening_order order ≡ false
     → AddsFew (node_does dig log bare order) node
-adds_few dig log bare (WalletUp node) (WalletOrdered order) fit command =
-    orders_add_one_record dig log (wallet_of bare) order
-adds_few dig log bare (WatcherUp node) (WatcherOrdered order) fit command =
-    watchers_add_no_leaf dig log bare.notes order
-adds_few dig log bare (OperatorUp node) (OperatorOrdered order) fit command =
-    operators_add_no_leaf dig log bare.notes order
-adds_few dig log bare (WalletUp node) (WatcherOrdered order) fit command = absurd (cc fit)
-adds_few dig log bare (WalletUp node) (OperatorOrdered order) fit command = absurd (cc fit)
-adds_few dig log bare (WatcherUp node) (WalletOrdered order) fit command = absurd (cc fit)
-adds_few dig log bare (WatcherUp node) (OperatorOrdered order) fit command = absurd (cc fit)
-adds_few dig log bare (OperatorUp node) (WalletOrdered order) fit command = absurd (cc fit)
-adds_few dig log bare (OperatorUp node) (WatcherOrdered order) fit command = absurd (cc fit)
-adds_few dig log bare (WalletUp node) Open fit command = absurd (cc command)
-adds_few dig log bare (WatcherUp node) Open fit command = absurd (cc command)
-adds_few dig log bare (OperatorUp node) Open fit command = absurd (cc command)
+adds_few dig log bare node order fit command =
+    grind (arith, common_steps, orders_add_one_record, watchers_add_no_leaf, operators_add_no_leaf) steps 20000
 
 -- what an order does is a matter of the records alone, but for an opening
 pub same_deed : (dig : List ℕ → List ℕ) (log : List RootCall) (node other : Node) (order : NodeOrder)
     → wallet_of node ≡ wallet_of other → is_opening_order order ≡ false
     → node_does dig log node order ≡ node_does dig log other order
-same_deed dig log node other (WalletOrdered order) same command =
-    ap (λ w. wallet_does dig log w order) same
-same_deed dig log node other (WatcherOrdered order) same command =
-    ap (λ w. watcher_does dig log w.notes order) same
-same_deed dig log node other (OperatorOrdered order) same command =
-    ap (λ w. operator_does dig log w.notes order) same
-same_deed dig log node other Open same command = absurd (cc command)
+same_deed dig log node other order same command = grind (arith, common_steps) steps 20000
 
 -- a wallet's part of it, by the records that are added
 wallet_ran : {H : Type 0} (note leaf : Option (List ℕ)) (old new : WalletState MemState H)
@@ -172,11 +143,7 @@ wallet_ran added None old new one did = (
   did.hash,
 )
 wallet_ran added (Some leaf) old new one did = (
-  elim one [
-    | inl none ↦ subst (λ (o : Option (List ℕ)). HalfRan o (half_of (notes_part old)) (half_of (notes_part new)))
-        (sym none) (half_stays (half_of (notes_part old)) (half_of (notes_part new)) did.disk did.notes)
-    | inr some ↦ absurd (cc some)
-  ],
+  grind (arith, common_steps, half_stays) steps 20000,
   half_ran (Some leaf) (leaves_part old) (leaves_part new) did.did,
   stays_open (Some leaf) (leaves_part old) (leaves_part new) did.did,
   did.hash,
@@ -210,10 +177,7 @@ up_ran deed (OperatorUp old) (WatcherUp new) few did = absurd did
 leaves_records : (added : Option (List ℕ)) (old new : Option Half) → LeavesRan added old new
     → option_map_or (λ (half : Half). half.records) new []
     ≡ with_record (option_map_or (λ (half : Half). half.records) old []) added
-leaves_records added None None ran = sym (ap (with_record []) ran)
-leaves_records added (Some old) (Some new) ran = ran.records
-leaves_records added None (Some new) ran = absurd ran
-leaves_records added (Some old) None ran = absurd ran
+leaves_records added old new ran = grind (arith, common_steps) steps 20000
 
 leaves_told : (added : Option (List ℕ)) (old new : Option Half) → LeavesRan added old new
     → option_map (λ (half : Half). half.disk.history) new
@@ -236,11 +200,7 @@ leaves_keep added (Some old) None ran keeps = absurd ran
 
 leaves_listed : (added : Option (List ℕ)) (old new : Option Half) → LeavesRan added old new
     → ForSome old (λ half. NoneListed half.disk) → ForSome new (λ half. NoneListed half.disk)
-leaves_listed added None None ran none = λ half is. absurd (cc is)
-leaves_listed added (Some old) (Some new) ran none = λ half is.
-    (let same : new ≡ half = cc is in subst (λ (h : Half). NoneListed h.disk) same (ran.listed (none old refl)))
-leaves_listed added None (Some new) ran none = absurd ran
-leaves_listed added (Some old) None ran none = absurd ran
+leaves_listed added old new ran none = grind (arith, common_steps) steps 20000
 
 pub ran_keeps : (deed : Doing) (old new : Halves) → HalvesRan deed old new → KeepsAll old → KeepsAll new
 ran_keeps deed old new ran keeps = record {
@@ -254,21 +214,8 @@ pub done : {H : Type 0} (hash : H) (name : List ℕ) (account : ℕ) (role : Rol
     → IsGiven deed.response given
     → IsDone order deed (view_in hash name account role true old offers) given
     (view_in hash name account role true new deed.response.offers)
-done hash name account role old new offers order deed given ran gives = record {
-  gives = gives;
-  node = λ i. record {
-    name = name;
-    account = account;
-    role = role;
-    is_up = true;
-    notes = ran.notes.records i;
-    leaves = leaves_records deed.leaf old.leaves new.leaves ran.leaves i;
-    offers = deed.response.offers;
-  };
-  notes_disk = ran.notes.told;
-  leaves_disk = leaves_told deed.leaf old.leaves new.leaves ran.leaves;
-  hash = refl;
-}
+done hash name account role old new offers order deed given ran gives =
+    grind (arith, common_steps, leaves_records, leaves_told) steps 20000
 
 pub whole_ran : {H : Type 0} (hash : H) (member : Member) (deed : Doing) (old new : UpNode H)
     → IsWhole hash member (Up old) → UpRan deed old new → IsWhole hash member (Up new)
@@ -279,8 +226,7 @@ whole_ran hash member deed old new whole ran = record {
     leaves = leaves_listed deed.leaf (up_halves old).leaves (up_halves new).leaves ran.halves.leaves
         whole.none_listed.leaves;
   };
-  identity = subst (IsOf member) (sym ran.halves.notes.records)
-      (stays_of member (up_halves old).notes.records deed.note whole.identity);
+  identity = grind (arith, common_steps, stays_of) steps 20000;
 }
 
 -- ---- openings
@@ -297,8 +243,7 @@ pub opens_half : (old : MemState) (new : NotesState MemState) → HalfOpened (ke
 opens_half old new opened = record {
   records = opened.records_are;
   told = opened.told;
-  keeps = subst (λ (rs : List (List ℕ)). EachKeeps rs new.disk.history) (sym opened.records_are)
-      opened.settled.images;
+  keeps = grind (arith, common_steps) steps 20000;
   listed = opened_listed (kept_of old.history) old new opened;
 }
 
@@ -345,18 +290,12 @@ up_opened dig (OperatorDown notes) (WatcherUp node) opens keeps = absurd opens
 
 opened_records : (old new : Option Half) → LeavesOpened old new
     → option_map_or (λ (half : Half). half.records) new [] ≡ option_map_or (λ (half : Half). half.records) old []
-opened_records None None opened = refl
-opened_records (Some old) (Some new) opened = opened.records
-opened_records None (Some new) opened = absurd opened
-opened_records (Some old) None opened = absurd opened
+opened_records old new opened = grind (arith, common_steps) steps 20000
 
 pub opened_told : (old new : Option Half) → LeavesOpened old new
     → option_map (λ (half : Half). half.disk.history) new
     ≡ option_map with_opening (option_map (λ (half : Half). half.disk.history) old)
-opened_told None None opened = refl
-opened_told (Some old) (Some new) opened = ap Some opened.told
-opened_told None (Some new) opened = absurd opened
-opened_told (Some old) None opened = absurd opened
+opened_told old new opened = grind (arith, common_steps) steps 20000
 
 opened_keep : (old new : Option Half) → LeavesOpened old new
     → ForSome new (λ half. EachKeeps half.records half.disk.history)
@@ -368,11 +307,7 @@ opened_keep (Some old) None opened = absurd opened
 
 leaves_none : (old new : Option Half) → LeavesOpened old new → ForSome old (λ half. NoneListed half.disk)
     → ForSome new (λ half. NoneListed half.disk)
-leaves_none None None opened none = λ half is. absurd (cc is)
-leaves_none (Some old) (Some new) opened none = λ half is.
-    (let same : new ≡ half = cc is in subst (λ (h : Half). NoneListed h.disk) same (opened.listed (none old refl)))
-leaves_none None (Some new) opened none = absurd opened
-leaves_none (Some old) None opened none = absurd opened
+leaves_none old new opened none = grind (arith, common_steps) steps 20000
 
 pub opened_keeps : {H : Type 0} (down : DownNode) (up : UpNode H) → UpOpened down up → KeepsAll (up_halves up)
 opened_keeps down up opened = record {
@@ -390,10 +325,7 @@ opened_none down up opened none = record {
 -- its records are those that the disks kept
 pub opened_same : {H : Type 0} (down : DownNode) (up : UpNode H) → UpOpened down up
     → wallet_of (bare_node (up_halves up)) ≡ wallet_of (bare_node (down_halves down))
-opened_same down up opened = λ i. record {
-  notes = opened.notes.records i;
-  leaves = opened_records (down_halves down).leaves (up_halves up).leaves opened.leaves i;
-}
+opened_same down up opened = grind (arith, common_steps, opened_records) steps 20000
 
 pub whole_opened : {H : Type 0} (hash : H) (member : Member) (down : DownNode) (up : UpNode H)
     → IsWhole hash member (Down down) → UpOpened down up → up_hash up ≡ hash → IsWhole hash member (Up up)
@@ -414,18 +346,5 @@ pub opening_done : {H : Type 0} (dig : List ℕ → List ℕ) (log : List RootCa
     IsGiven (node_does dig log old.node Open).response given
     → IsDone Open (node_does dig log old.node Open) old given
     (view_in hash name account role true (up_halves up) []))
-opening_done dig log hash name account role down up offers given opened gives = record {
-  gives = gives;
-  node = λ i. record {
-    name = name;
-    account = account;
-    role = role;
-    is_up = true;
-    notes = opened.notes.records i;
-    leaves = opened_records (down_halves down).leaves (up_halves up).leaves opened.leaves i;
-    offers = [];
-  };
-  notes_disk = opened.notes.told;
-  leaves_disk = opened_told (down_halves down).leaves (up_halves up).leaves opened.leaves;
-  hash = refl;
-}
+opening_done dig log hash name account role down up offers given opened gives =
+    grind (arith, common_steps, opened_records, opened_told) steps 20000

@@ -1,8 +1,9 @@
 -- What a crash leaves of a command of which a fuse lets so many device calls pass.
-use Rattle.std.proofs.Common.{◌≡◌, ◌<◌, ◌≤◌, ◌+◌, ◌-◌, ◌∷◌, ◌++◌, [], ℕ, zero, suc, Bool, true, false, cond, min, nat_le, nat_lt, List, length, Option, Some, None, refl, sym, ◌∙◌, ap, subst, arith}
-use Rattle.std.specs.Prelude.{◌&&◌, ◌||◌}
+use Rattle.std.proofs.Common.{◌≡◌, ◌<◌, ◌≤◌, ◌+◌, ◌-◌, ◌∷◌, ◌++◌, [], ℕ, Bool, true, false, cond, min, nat_le, nat_lt, List, length, Option, Some, None, refl, sym, ◌∙◌, ap, subst, arith}
+use Rattle.std.specs.Prelude.{◌&&◌}
 use Rattle.std.specs.Option.{is_some}
 use Rattle.std.proofs.lemmas.Bool.Decides.{nat_tests}
+use Rattle.std.proofs.lemmas.Grind.{common_steps}
 use Rattle.crash_disk.specs.Disk.{History, after_calls, passing}
 use Rattle.crash_disk.specs.Calls.{with_made}
 use Rattle.crash_disk.specs.Memory.{MemState, plan_of, with_fuse}
@@ -12,7 +13,7 @@ use Rattle.crash_disk.proofs.Plans.{passing-by_fuse}
 use Rattle.gate_journal.specs.Image.{most, spelled}
 use Rattle.gate_journal.specs.Steps.{append_steps}
 use Rattle.gate_journal.specs.Journal.{Keeps}
-use Rattle.gate_journal.specs.Laws.{is_added, opens_gate}
+use Rattle.gate_journal.specs.Laws.{is_added}
 use Rattle.gate_journal.proofs.Crash.{stopped_appends}
 use Rattle.node_journal.specs.Notes.{NotesState, Did}
 use Rattle.node_journal.specs.declared.stop.Stop.TheVariants.{DeviceFault}
@@ -24,21 +25,12 @@ use Rattle.world_nodes.proofs.Halves.{planned_listed, HalfOpened, opened_listed,
 
 -- as many of four pass as of any number that is at least four
 added_by : (calls : ℕ) (outcome : Outcome) → is_added (min 4 calls) outcome ≡ is_added calls outcome
-added_by calls outcome =
-    let four : nat_le 4 (min 4 calls) ≡ nat_le 4 calls = grind (arith, nat_tests) in
-    let two : nat_le 2 (min 4 calls) ≡ nat_le 2 calls = grind (arith, nat_tests) in
-    (λ i. four i || (two i && opens_gate outcome))
+added_by calls outcome = grind (arith, common_steps, nat_tests) steps 20000
 
 -- so many of the calls of an append, which are four
 made_by : (calls gate : ℕ) (body : List ℕ) (history : History)
     → with_made (min 4 calls) (append_steps gate body) history ≡ with_made calls (append_steps gate body) history
-made_by zero gate body history = refl
-made_by (suc zero) gate body history = refl
-made_by (suc (suc zero)) gate body history = refl
-made_by (suc (suc (suc zero))) gate body history = refl
-made_by (suc (suc (suc (suc calls)))) gate body history =
-    let four : min 4 (suc (suc (suc (suc calls)))) ≡ 4 = omega arith in
-    ap (λ (n : ℕ). with_made n (append_steps gate body) history) four
+made_by calls gate body history = grind (arith, common_steps) steps 20000
 
 pub same_if : {A : Type 0} (b : Bool) (x : A) → cond b x x ≡ x
 same_if true x = refl
@@ -75,8 +67,7 @@ module _ (calls fuse : ℕ) (fused : min 4 (fuse - 3) ≡ min 4 calls) (outcome 
       let after = cond (is_added calls outcome) (records ++ body ∷ []) records in
       let here : Keeps after
       (image_after outcome (with_made passed (append_steps (length (spelled records)) body) history)) =
-      subst (λ (b : Bool). Keeps (cond b (records ++ body ∷ []) records)
-      (image_after outcome (with_made passed (append_steps (length (spelled records)) body) history))) added all in
+      grind (arith, common_steps) steps 20000 in
       left_half after outcome new
       (subst (λ (h : History). Keeps after (image_after outcome h)) (sym told') here)
       (planned_listed count state.disk new planned unlisted)
@@ -123,8 +114,7 @@ module _ (calls fuse : ℕ) (fused : min 4 (fuse - 3) ≡ min 4 calls) (outcome 
       let four : 4 ≡ min 4 calls = sym (did.made.planned.0 (plan_of state.disk) refl) ∙ pass in
       let le : 4 ≤ calls = omega (arith, four) in
       let added : is_added calls outcome ≡ true =
-      (let is : nat_le 4 calls ≡ true = grind (arith, nat_tests) in ap (λ (b : Bool). b || (nat_le 2 calls &&
-      opens_gate outcome)) is) in (
+      (let is : nat_le 4 calls ≡ true = grind (arith, nat_tests) in grind (arith, common_steps) steps 20000) in (
         grind (arith, nat_tests),
         subst (λ (b : Bool). IsLeft (cond b (records ++ body ∷ []) records) (kept_half (crashed outcome
             new.disk))) added

@@ -1,9 +1,9 @@
-ghost use Rattle.std.specs.Prelude.{◌≡◌, ◌-◌, ◌<◌, ◌≤◌, min, ℕ, [], length, true, false, IfOk, OnOk};
+ghost use Rattle.std.specs.Prelude.{◌≡◌, ◌-◌, ◌<◌, ◌≤◌, min, ℕ, [], length, true, false, IfOk, OnOk, OnErr};
 ghost use Rattle.crash_disk.specs.Outcomes.{HasPattern};
 ghost use Rattle.crash_disk.specs.Memory.{with_fuse};
 ghost use Rattle.node_replies.specs.declared.order.NodeOrder.{NodeOrder};
 ghost use Rattle.world_nodes.specs.Orders.{fits, is_opening_order, IsFit};
-ghost use Rattle.world_nodes.specs.Nodes.{role_of, declared_as, Spells};
+ghost use Rattle.world_nodes.specs.Nodes.{role_of, declared_as, answers_down, Spells};
 ghost use Rattle.world_nodes.specs.Cuts.{Cuts};
 ghost use Rattle.world_nodes.specs.Inside.{down_halves, down_kind, end_in, HaveJournals, MayOpen, IsToStop, IsCutShort, IsCutOpening};
 
@@ -146,7 +146,7 @@ impl<H: Hash32 + Copy> Entry<H> {
     ///
     /// The order is `Stopped` where it needs more calls, and then the record that the crash left of it is told;
     /// else it is `Done`, but offers nothing. A node that is down does no order but the one that opens it: it
-    /// is `Down`, and nothing changes. `NoMemory` may lose the node.
+    /// is `Down`, takes no memory, and nothing changes. `NoMemory` may lose the node.
     pub fn cut(
         &mut self,
         log: &RootLog,
@@ -159,6 +159,7 @@ impl<H: Hash32 + Copy> Entry<H> {
         requires spells { Spells self.old }
         ensures cuts { IfOk result (λ end.
             Cuts (H.digest_of self.old.hash) log.now.log calls outcome.now order.now self.old end self.new) }
+        ensures memory { OnErr result (answers_down order.now self.old.node ≡ false) }
         ensures spells { OnOk result (Spells self.new) }
         ensures hash { self.new.hash ≡ self.old.hash }
         ensures declared { declared_as self.new.node ≡ declared_as self.old.node }

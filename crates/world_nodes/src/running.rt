@@ -1,4 +1,4 @@
-ghost use Rattle.std.specs.Prelude.{◌≡◌, true, false, IfOk, OnOk};
+ghost use Rattle.std.specs.Prelude.{◌≡◌, true, false, not, IfOk, OnOk, OnErr};
 ghost use Rattle.world_rules.specs.Orders.{node_does};
 ghost use Rattle.world_nodes.specs.Orders.{fits, is_opening_order};
 ghost use Rattle.world_nodes.specs.Nodes.{declared_as, Spells, IsDone, Runs};
@@ -26,12 +26,14 @@ fn copy_calls(alloc: Global, calls: &[RootCall]) -> Result<Vec<RootCall>, NoMemo
 impl<H: Hash32 + Copy> Entry<H> {
     /// Runs an order of the node with the log of the root chain, and gives out its answer, the bytes that it
     /// makes and the calls that it offers. A node that is down does no order but the one that opens it: it
-    /// answers `Down`, and nothing changes. `NoMemory` may lose the node.
+    /// answers `Down`, and nothing changes. Only the opening of a node that is down and a command of one that is
+    /// up take memory; `NoMemory` may lose the node.
     pub fn run(&mut self, log: &RootLog, order: &NodeOrder) -> Result<Given, NoMemory>
         requires fits { fits self.old.node.role order.now ≡ true }
         requires spells { Spells self.old }
         ensures runs { IfOk result (λ given.
             Runs (H.digest_of self.old.hash) log.now.log order.now self.old given self.new) }
+        ensures memory { OnErr result (self.old.node.is_up ≡ not (is_opening_order order.now)) }
         ensures spells { OnOk result (Spells self.new) }
         ensures hash { self.new.hash ≡ self.old.hash }
         ensures declared { declared_as self.new.node ≡ declared_as self.old.node }

@@ -14,7 +14,7 @@ returns-in-Ok-clause-runs g c =
     rw (← c.new-session.ensures.rules)
     (answered-runs _ _ g.found (IsSession g.N.Commanded.is_at g.N.Commanded.is_stopped)
     (λ session. IsHaltedSession g.N.Commanded.is_at g.N.Commanded.is_stopped (g.N.Commanded.command_in session.node)
-    session)
+    g.N.Commanded.begins_with_bytes session)
     g.N.Commanded.is_at g.N.Commanded.is_stopped
     _ _ c.take_node.ensures.ran c.take_node.ensures.halted _ _ _ _ _ _ c.in-Ok.ending
     (ReadsToFault (g.S.Source.faults c.args.source.now) (g.S.Source.faults c.answer_lines.new.source)
@@ -26,7 +26,7 @@ returns-in-Err-Failed-clause-runs g c =
     rw (← c.new-session.ensures.rules)
     (faulted-runs _ _ g.found (IsSession g.N.Commanded.is_at g.N.Commanded.is_stopped)
     (λ session. IsHaltedSession g.N.Commanded.is_at g.N.Commanded.is_stopped (g.N.Commanded.command_in session.node)
-    session)
+    g.N.Commanded.begins_with_bytes session)
     g.N.Commanded.is_at g.N.Commanded.is_stopped
     _ _ c.take_node-in-Err-Failed.ensures.ran c.take_node-in-Err-Failed.ensures.halted _ _ _ _ _ _ _ _ _
     c.in-Err-Failed.field-0-is c.in-Err-Failed.ensures.broken c.put_fault-status.ensures.ends)
@@ -36,7 +36,7 @@ returns-in-Err-WriteFault-clause-runs g c =
     rw (← c.new-session.ensures.rules)
     (refused-runs _ _ g.found (IsSession g.N.Commanded.is_at g.N.Commanded.is_stopped)
     (λ session. IsHaltedSession g.N.Commanded.is_at g.N.Commanded.is_stopped (g.N.Commanded.command_in session.node)
-    session)
+    g.N.Commanded.begins_with_bytes session)
     g.N.Commanded.is_at g.N.Commanded.is_stopped
     _ _ c.take_node-in-Err-WriteFault.ensures.ran c.take_node-in-Err-WriteFault.ensures.halted _ _ _ _ _ _ _
     c.in-Err-WriteFault.field-0-is c.in-Err-WriteFault.ensures.broken)
@@ -46,7 +46,7 @@ returns-clause-runs g c =
     rw (← c.new-session.ensures.rules)
     (starved-runs _ _ g.found (IsSession g.N.Commanded.is_at g.N.Commanded.is_stopped)
     (λ session. IsHaltedSession g.N.Commanded.is_at g.N.Commanded.is_stopped (g.N.Commanded.command_in session.node)
-    session)
+    g.N.Commanded.begins_with_bytes session)
     g.N.Commanded.is_at g.N.Commanded.is_stopped
     _ _ c.take_node-in-Err-NoMemory.ensures.ran c.take_node-in-Err-NoMemory.ensures.halted _ _ _ _ _ _ _
     c.in-Err-NoMemory.field-0-is c.in-Err-NoMemory.ensures.broken)
@@ -58,7 +58,7 @@ returns-in-Ok-clause-memory g c = λ none is.
     rw (← c.new-session.ensures.rules)
     (answered-runs _ _ g.found (IsSession g.N.Commanded.is_at g.N.Commanded.is_stopped)
     (λ session. IsHaltedSession g.N.Commanded.is_at g.N.Commanded.is_stopped (g.N.Commanded.command_in session.node)
-    session)
+    g.N.Commanded.begins_with_bytes session)
     g.N.Commanded.is_at g.N.Commanded.is_stopped
     _ _ c.take_node.ensures.ran c.take_node.ensures.halted _ _ _ _ _ _ c.in-Ok.ending
     (ReadsToFault (g.S.Source.faults c.args.source.now) (g.S.Source.faults c.answer_lines.new.source)
@@ -77,7 +77,7 @@ returns-clause-memory g c = λ none is.
     rw (← c.new-session.ensures.rules)
     (starved-runs _ _ g.found (IsSession g.N.Commanded.is_at g.N.Commanded.is_stopped)
     (λ session. IsHaltedSession g.N.Commanded.is_at g.N.Commanded.is_stopped (g.N.Commanded.command_in session.node)
-    session)
+    g.N.Commanded.begins_with_bytes session)
     g.N.Commanded.is_at g.N.Commanded.is_stopped
     _ _ c.take_node-in-Err-NoMemory.ensures.ran c.take_node-in-Err-NoMemory.ensures.halted _ _ _ _ _ _ _
     c.in-Err-NoMemory.field-0-is c.in-Err-NoMemory.ensures.broken)
