@@ -1,5 +1,5 @@
 -- Every signature that is made is valid.
-use Rattle.std.proofs.Common.{◌≡◌, ℕ, zero, suc, ◌+◌, ◌-◌, ◌*◌, ◌/◌, ◌%◌, ◌^◌, ◌<◌, ◌≤◌, inl, inr, true, List, [], ◌++◌, take, drop, length, refl, sym, ap, ◌∙◌, arith, add-zero, zero-add, append_assoc, length-append}
+use Rattle.std.proofs.Common.{◌≡◌, ℕ, zero, suc, ◌+◌, ◌-◌, ◌*◌, ◌/◌, ◌%◌, ◌^◌, ◌<◌, ◌≤◌, inl, inr, true, List, [], ◌++◌, take, drop, length, refl, sym, ap, ◌∙◌, arith, zero-add, append_assoc, length-append}
 use Rattle.std.proofs.lemmas.Bool.Decides.{nat_tests}
 use Rattle.std.proofs.lemmas.Bool.{cases_eq, cases_lt, eq-eqb, lt-ltb, ne_eqb}
 use Rattle.std.proofs.lemmas.List.{drop-drop, drop_at, take_at}
@@ -11,22 +11,12 @@ use Rattle.sha2.proofs.Facts256.{length-sha256}
 use Rattle.lms_sign.specs.declared.types.LmsTypes.{LmsTypes}
 use Rattle.lms_sign.specs.declared.secret.Secret.{Secret}
 use Rattle.lms_sign.specs.Types.{chain_length, chains, height, is_supported, leaf_count, signature_length, u32_at, u32str}
-use Rattle.lms_sign.specs.OneTime.{chain_end, chain_step, chain_value, digit, finished_string, concatenation, message_hash, private_element, randomizer, signed_string}
+use Rattle.lms_sign.specs.OneTime.{chain_end, digit, finished_string, concatenation, message_hash, private_element, randomizer, signed_string}
 use Rattle.lms_sign.specs.Tree.{authentication_path, public_key_of, sibling, signature_of, tree_node}
 use Rattle.lms_sign.specs.Valid.{SignaturesAreValid, candidate_root, id_of, path_place, key_root, randomizer_of, type_place, types_of, ancestor_node, is_formed, is_valid, parent_node, string_of}
 use Rattle.lms_sign.proofs.Sizes.{digit-le, leaf_count-le}
-use Rattle.lms_sign.proofs.Lists.{length-chain_at, length-u32str}
+use Rattle.lms_sign.proofs.Lists.{chain_value-add, length-chain_at, length-u32str}
 use Rattle.lms_sign.proofs.Nodes.{length-tree_node, tree_node-inner, tree_node-leaf}
-
--- a steps and then b steps are a + b steps
-chain_value-add : (id : List ℕ) (q i j a b : ℕ) (string : List ℕ)
-    → chain_value id q i j (a + b) string ≡ chain_value id q i (j + a) b (chain_value id q i j a string)
-unfolding chain_value
-chain_value-add id q i j zero b string = rw (zero-add, add-zero) refl
-chain_value-add id q i j (suc a) b string =
-    let steps : suc a + b ≡ suc (a + b) = omega arith in
-    let place : j + suc a ≡ j + 1 + a = omega arith in
-    rw (steps, place) (chain_value-add id q i (j + 1) a b (chain_step id q i j string))
 
 -- a chain that is finished from its digit's place ends where the whole chain does
 finished-end : (secret : Secret) (q i : ℕ) (hash : List ℕ) (given : ℕ → List ℕ)

@@ -1,5 +1,5 @@
 -- Strings one after another, and the steps of a chain.
-use Rattle.std.proofs.Common.{◌≡◌, ℕ, zero, suc, ◌+◌, ◌/◌, ◌<◌, List, ◌++◌, take, drop, refl, sym, ap, ◌∙◌, add-one, append_assoc, append-nil, arith, get_or, inl, inr, length, set, zero-add}
+use Rattle.std.proofs.Common.{◌≡◌, ℕ, zero, suc, ◌+◌, ◌/◌, ◌<◌, List, ◌++◌, take, drop, refl, sym, ap, ◌∙◌, add-one, add-zero, append_assoc, append-nil, arith, get_or, inl, inr, length, set, zero-add}
 use Rattle.std.proofs.lemmas.Bool.{cases_lt}
 use Rattle.std.proofs.lemmas.List.{get_or-set_other, get_or-set_same, take_all}
 use Rattle.sha2.proofs.Facts256.{length-sha256}
@@ -22,10 +22,21 @@ pub chain_value-none : (id : List ℕ) (q i j : ℕ) (n : ℕ) (string : List �
 unfolding chain_value
 chain_value-none id q i j n string e = rw e refl
 
-pub chain_value-more : (id : List ℕ) (q i j n m : ℕ) (string : List ℕ) → n ≡ m + 1
-    → chain_value id q i j n string ≡ chain_value id q i (j + 1) m (chain_step id q i j string)
+-- a steps and then b steps are a + b steps
+pub chain_value-add : (id : List ℕ) (q i j a b : ℕ) (string : List ℕ)
+    → chain_value id q i j (a + b) string ≡ chain_value id q i (j + a) b (chain_value id q i j a string)
 unfolding chain_value
-chain_value-more id q i j n m string e = rw (e, add-one) refl
+chain_value-add id q i j zero b string = rw (zero-add, add-zero) refl
+chain_value-add id q i j (suc a) b string =
+    let steps : suc a + b ≡ suc (a + b) = omega arith in
+    let place : j + suc a ≡ j + 1 + a = omega arith in
+    rw (steps, place) (chain_value-add id q i (j + 1) a b (chain_step id q i j string))
+
+-- the last of some steps
+pub chain_value-last : (id : List ℕ) (q i j n : ℕ) (string : List ℕ)
+    → chain_value id q i j (n + 1) string ≡ chain_step id q i (j + n) (chain_value id q i j n string)
+unfolding chain_value
+chain_value-last id q i j n string = chain_value-add id q i j n 1 string
 
 length-chain_value : (id : List ℕ) (q i j n : ℕ) (string : List ℕ) → length string ≡ 32
     → length (chain_value id q i j n string) ≡ 32

@@ -1,43 +1,35 @@
-//! Steps of chains on several strings at a time: the message of each fills one block of SHA-256 with its padding.
+//! Steps of eight chains of a leaf at a time: the message of each fills one block of SHA-256 with its padding.
 
-ghost use Rattle.std.specs.Prelude.{◌≡◌, ℕ, ◌+◌, ◌^◌, ◌<◌, ◌≤◌, ◌++◌, [], length, slice_index, slice_index_or, take};
+ghost use Rattle.std.specs.Prelude.{◌≡◌, ℕ, ◌+◌, ◌*◌, ◌^◌, ◌<◌, ◌≤◌, List, ◌++◌, [], length, slice_index, slice_index_or, take};
 ghost use Rattle.sha2.specs.Sha256.{digest_bytes, word_at};
 ghost use Rattle.lms_sign.specs.Types.{u32str};
-ghost use Rattle.lms_sign.specs.Lanes.{HasWords, IsBegun, first_digest, five_rounds, write_at};
-ghost use Rattle.lms_sign.specs.OneTime.{chain_step};
+ghost use Rattle.lms_sign.specs.Lanes.{HasWords, IsBegun};
+ghost use Rattle.lms_sign.specs.OneTime.{chain_value};
 
-use super::fields::{put, u8str, u16str, u32str};
-use super::lanes::{first_five_rounds, first_hashes};
+use super::fields::{put, u32str};
+use super::lanes::{Begun, first_five_rounds, next_hashes};
 
-// What pads a message of 55 bytes to a block: a bit 1, zeros, and the length in bits, 440.
-const PADDING: [u8; 9] = [0x80, 0, 0, 0, 0, 0, 0, 1, 0xb8];
-
-// The block of a step of a chain.
-fn chain_block(id: &[u8; 16], q: u32, i: u16, j: u8, string: &[u8; 32]) -> [u8; 64]
-    ensures digest { first_digest result ≡ chain_step id.now q i j string.now }
-    ensures begins { take 20 result ≡ id.now ++ u32str q }
+// A block that begins as those of all steps of the chains of leaf q do.
+fn leaf_block(id: &[u8; 16], q: u32) -> [u8; 64]
+    ensures { take 20 result ≡ id.now ++ u32str q }
 {
     let mut block = [0; 64];
     put(&mut block, 0, id);
     put(&mut block, 16, &u32str(q));
-    put(&mut block, 20, &u16str(i));
-    put(&mut block, 22, &u8str(j));
-    put(&mut block, 23, string);
-    put(&mut block, 55, &PADDING);
     block
 }
 
-// The word at a place of a block.
+// The word at a place of the bytes.
 #[inline(always)]
-fn word_at(block: &[u8; 64], place: usize) -> u32
-    requires { place + 4 ≤ 64 }
-    ensures { result ≡ word_at block.now place }
+fn word_at(bytes: &[u8], place: usize) -> u32
+    requires { place + 4 ≤ length bytes.now }
+    ensures { result ≡ word_at bytes.now place }
 {
     u32::from_be_bytes([
-        block[place],
-        block[place + 1],
-        block[place + 2],
-        block[place + 3],
+        bytes[place],
+        bytes[place + 1],
+        bytes[place + 2],
+        bytes[place + 3],
     ])
 }
 
@@ -52,6 +44,17 @@ fn block_words(block: &[u8; 64]) -> [u32; 16]
     words
 }
 
+// The hash value that a string is the digest of.
+fn hash_of(string: &[u8; 32]) -> [u32; 8]
+    ensures { digest_bytes result 8 ≡ string.now }
+{
+    let mut hash = [0; 8];
+    'words: for k in 0..8 {
+        hash[k] = word_at(string, 4 * k);
+    }
+    hash
+}
+
 // The digest that a hash value is.
 fn digest(hash: &[u32; 8]) -> [u8; 32]
     ensures { result ≡ digest_bytes hash.now 8 }
@@ -63,55 +66,40 @@ fn digest(hash: &[u32; 8]) -> [u8; 32]
     digest
 }
 
-// The digests of messages that fill a block each, of which these are the first five rounds.
-fn digests<const LANES: usize>(begun: &[u32; 8], blocks: &[[u8; 64]; LANES]) -> [[u8; 32]; LANES]
-    requires { (k : ℕ) → k < LANES → begun.now ≡ five_rounds (slice_index_or blocks.now k []) }
-    ensures { (k : ℕ) → k < LANES → slice_index_or result k [] ≡ first_digest (slice_index_or blocks.now k []) }
-{
-    let mut words = [[0; 16]; LANES];
-    'words: for k in 0..LANES {
-        words[k] = block_words(&blocks[k]);
-    }
-    let hashes = first_hashes(begun, &words);
-    let mut all = [[0; 32]; LANES];
-    'hashes: for k in 0..LANES {
-        all[k] = digest(&hashes[k]);
-    }
-    all
-}
-
-/// The first five rounds of all steps of the chains of leaf q, which digest its identifier and its number alone.
-pub(crate) fn begin_steps(id: &[u8; 16], q: u32) -> [u32; 8]
+/// What all steps of the chains of leaf q begin with.
+pub(crate) fn begin_steps(id: &[u8; 16], q: u32) -> Begun
     ensures { IsBegun id.now q result }
 {
-    let block = chain_block(id, q, 0, 0, &[0; 32]);
-    first_five_rounds(&block_words(&block))
+    let words = block_words(&leaf_block(id, q));
+    Begun {
+        words: [words[0], words[1], words[2], words[3], words[4]],
+        rounds: first_five_rounds(&words),
+    }
 }
 
-/// One step, from place j, of the chains of leaf q that the numbers name, behind the first five rounds. The strings
-/// stand at the chains' numbers.
-pub(crate) fn step<const LANES: usize>(
-    begun: &[u32; 8],
-    id: &[u8; 16],
-    q: u32,
-    j: u8,
-    numbers: [usize; LANES],
-    strings: &mut [[u8; 32]],
-)
-    requires few { LANES ≤ 8 }
-    requires begun { IsBegun id.now q begun.now }
-    requires small { length strings.old ≤ 2 ^ 16 }
-    requires within { (k : ℕ) → k < LANES → slice_index numbers k < length strings.old }
-    ensures { strings.new
-        ≡ write_at strings.old numbers.entry (λ n. chain_step id.now q n j (slice_index_or strings.old n [])) }
+/// The strings of eight chains of a leaf so many steps further on. A mark tells of each its number and its place, in
+/// two bytes and one.
+pub(crate) fn strings_after(
+    begun: &Begun,
+    marks: &[u32; 8],
+    count: u8,
+    strings: &[[u8; 32]; 8],
+) -> [[u8; 32]; 8]
+    requires { (k : ℕ) → k < 8 → slice_index marks.now k + count ≤ 2 ^ 24 }
+    ensures { (id : List ℕ) (q k i j : ℕ) → length id ≡ 16 → IsBegun id q begun.now → k < 8
+        → slice_index marks.now k ≡ i * 256 + j → i < 2 ^ 16 → j + count ≤ 2 ^ 8
+        → slice_index_or result k [] ≡ chain_value id q i j count (slice_index_or strings.now k []) }
 {
-    let mut padded = [[0; 64]; LANES];
-    'messages: for k in 0..LANES {
-        let n = numbers[k];
-        padded[k] = chain_block(id, q, n as u16, j, &strings[n]);
+    let mut hashes = [[0; 8]; 8];
+    'load: for k in 0..8 {
+        hashes[k] = hash_of(&strings[k]);
     }
-    let ends = digests(begun, &padded);
-    'strings: for k in 0..LANES {
-        strings[numbers[k]] = ends[k];
+    'steps: for step in 0..count {
+        next_hashes(begun, marks, u32::from(step), &mut hashes);
     }
+    let mut ends = [[0; 32]; 8];
+    'store: for k in 0..8 {
+        ends[k] = digest(&hashes[k]);
+    }
+    ends
 }

@@ -1,11 +1,14 @@
-ghost use Rattle.std.specs.Prelude.{◌≡◌, ℕ, ◌+◌, ◌*◌, ◌^◌, ◌<◌, ◌≤◌, ◌⊎◌, [], length, slice_index_or};
+ghost use Rattle.std.specs.Prelude.{◌≡◌, ℕ, ◌+◌, ◌*◌, ◌^◌, ◌<◌, ◌≤◌, ◌⊎◌, List, [], length, slice_index_or};
 ghost use Rattle.lms_sign.specs.Types.{chain_length, chains};
-ghost use Rattle.lms_sign.specs.OneTime.{chain_end, coefficient, concatenation, digit, finished_string, hash_with_checksum, one_time_key, one_time_public, private_element, randomizer, signed_string};
+ghost use Rattle.lms_sign.specs.OneTime.{chain_end, chain_step, coefficient, concatenation, digit, finished_string, hash_with_checksum, one_time_key, one_time_public, private_element, randomizer, signed_string};
+ghost use Rattle.lms_sign.specs.Lanes.{IsBegun};
 ghost use Rattle.lms_sign.specs.Valid.{candidate, string_of};
 
+use super::blocks::{begin_steps, strings_after};
 use super::chains::{Span, take_steps};
 use super::fields::{put, u16str};
 use super::hashing::{D_PBLC, chain_step, hasher_for, message_hash};
+use super::lanes::Begun;
 use super::secret::Secret;
 use super::types::LmsTypes;
 use sha2::Digest;
@@ -13,8 +16,8 @@ use sha2::Digest;
 // No leaf has more chains.
 const MOST_CHAINS: usize = 67;
 
-/// The strings of a leaf's chains, and three more, which are left free.
-pub(crate) const STRINGS: usize = 70;
+/// Room for the strings of a leaf's chains, in nine groups of eight.
+pub(crate) const STRINGS: usize = 72;
 
 /// The i-th group of w bits of the bytes, from the highest bit of the first byte.
 #[tactic(auto, using(crate::proofs::Sizes::digits_of_width), unfolding(crate::specs::OneTime::coefficient))]
@@ -83,9 +86,22 @@ pub(crate) fn signed_strings(secret: &Secret, q: u32, hash: &[u8; 32]) -> [[u8; 
         spans[usize::from(i)] = Span { from: 0, to };
     }
     let mut strings = private_elements(secret, q);
-    let spans = &spans[..usize::from(types.chains())];
-    take_steps(&secret.id, q, chain_length(types), spans, &mut strings);
+    let spans = &mut spans[..usize::from(types.chains())];
+    take_steps(&secret.id, q, spans, &mut strings);
     strings
+}
+
+// The strings that eight chains start with, from a number on: a step from the seed at the place 0xff.
+fn eight_elements(begun: &Begun, first: usize, seed: &[u8; 32]) -> [[u8; 32]; 8]
+    requires { first + 8 ≤ 2 ^ 16 }
+    ensures { (id : List ℕ) (q k : ℕ) → length id ≡ 16 → IsBegun id q begun.now → k < 8
+        → slice_index_or result k [] ≡ chain_step id q (first + k) 0xff seed.now }
+{
+    let mut marks = [0; 8];
+    'marks: for k in 0..8 {
+        marks[k] = (first + k) as u32 * 256 + 0xff;
+    }
+    strings_after(begun, &marks, 1, &[*seed; 8])
 }
 
 // The strings that the chains of leaf q start with.
@@ -93,9 +109,13 @@ fn private_elements(secret: &Secret, q: u32) -> [[u8; 32]; STRINGS]
     ensures { (i : ℕ) → i < chains secret.now.types
         → slice_index_or result i [] ≡ private_element secret.now q i }
 {
+    let begun = begin_steps(&secret.id, q);
     let mut strings = [[0; 32]; STRINGS];
-    'starts: for i in 0..secret.types.chains() {
-        strings[usize::from(i)] = chain_step(&secret.id, q, i, 0xff, &secret.seed);
+    'groups: for group in 0..usize::from(secret.types.chains()).div_ceil(8) {
+        let elements = eight_elements(&begun, 8 * group, &secret.seed);
+        'lanes: for k in 0..8 {
+            strings[8 * group + k] = elements[k];
+        }
     }
     strings
 }
@@ -105,10 +125,10 @@ fn chain_ends(secret: &Secret, q: u32) -> [[u8; 32]; STRINGS]
     ensures { (i : ℕ) → i < chains secret.now.types → slice_index_or result i [] ≡ chain_end secret.now q i }
 {
     let steps = chain_length(&secret.types);
-    let spans = [Span { from: 0, to: steps }; MOST_CHAINS];
+    let mut spans = [Span { from: 0, to: steps }; MOST_CHAINS];
     let mut strings = private_elements(secret, q);
-    let spans = &spans[..usize::from(secret.types.chains())];
-    take_steps(&secret.id, q, steps, spans, &mut strings);
+    let spans = &mut spans[..usize::from(secret.types.chains())];
+    take_steps(&secret.id, q, spans, &mut strings);
     strings
 }
 
@@ -133,8 +153,8 @@ fn finished_strings(
         spans[usize::from(i)] = Span { from, to: steps };
         strings[usize::from(i)] = string_of(signature, i);
     }
-    let spans = &spans[..usize::from(types.chains())];
-    take_steps(id, q, steps, spans, &mut strings);
+    let spans = &mut spans[..usize::from(types.chains())];
+    take_steps(id, q, spans, &mut strings);
     strings
 }
 

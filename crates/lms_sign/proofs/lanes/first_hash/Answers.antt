@@ -5,7 +5,7 @@ use Rattle.lms_sign.proofs.lanes.first_hash.Goals as goal
 
 pub returns : goal.returns
 unfolding compress
-returns g c = λ b words begun.
+returns c = λ b words begun.
     let h = initial_hash_256 in
     let window = IsWindow_first b c.args.words words.0 words.1 in
     let s1 = c.first_step-v.ensures b h window begun in

@@ -4,16 +4,6 @@ use Rattle.lms_sign.specs.declared.chains.Span.{Span}
 use Rattle.lms_sign.specs.OneTime.{chain_end}
 use Rattle.lms_sign.proofs.one_time.chain_ends.Goals as goal
 
-pub take_steps-requires-clause-spans : goal.take_steps-requires-clause-spans
-take_steps-requires-clause-spans c n below =
-    let none : Span = record { from = 0; to = 0 } in
-    let whole : Span = record { from = 0; to = c.chain_length-steps.result } in
-    let k = c.from.result in
-    let long : length (take k (replicate 67 whole)) ≡ k = length-take-le k (replicate 67 whole) (omega arith) in
-    let span = get_or-take k (replicate 67 whole) n none (omega arith)
-    ∙ get_or-replicate 67 n whole none (omega arith) in
-    rw span (omega arith, omega arith)
-
 pub returns : goal.returns
 unfolding chain_end
 returns c i below =

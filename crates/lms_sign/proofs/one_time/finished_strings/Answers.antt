@@ -4,7 +4,6 @@ use Rattle.lms_sign.specs.declared.chains.Span.{Span}
 use Rattle.lms_sign.specs.OneTime.{digit, finished_string}
 use Rattle.lms_sign.specs.Valid.{string_of}
 use Rattle.lms_sign.proofs.Lists.{set_next}
-use Rattle.lms_sign.proofs.Sizes.{digit-le}
 use Rattle.lms_sign.proofs.one_time.finished_strings.Goals as goal
 
 pub given-preserved : goal.given-preserved
@@ -19,15 +18,6 @@ given-preserved c =
       strings = rw c.from-in-given.ensures (set_next (string_of c.args.signature.now) c.given.strings c.given.i
           c.string_of.result [] (omega arith) c.string_of.ensures c.given.invariant.strings);
     }
-
-pub take_steps-requires-clause-spans : goal.take_steps-requires-clause-spans
-take_steps-requires-clause-spans c n below =
-    let k = c.from-2.result in
-    let spans = c.given.spans in
-    let long : length (take k spans) ≡ k = length-take-le k spans (omega (arith, c.given.invariant.span_count)) in
-    let span = get_or-take k spans n (record { from = 0; to = 0 }) (omega arith)
-    ∙ c.given.invariant.spans n (omega arith) in
-    rw span (omega (arith, digit-le c.args.types.now c.args.hash.now n), omega arith)
 
 pub returns : goal.returns
 unfolding finished_string

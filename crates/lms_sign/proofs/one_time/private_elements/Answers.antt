@@ -1,14 +1,12 @@
-use Rattle.std.proofs.Common.{rules, [], arith}
+use Rattle.std.proofs.Common.{rules, ◌+◌, ◌*◌, [], arith}
 use Rattle.lms_sign.specs.OneTime.{private_element}
 use Rattle.lms_sign.proofs.Lists.{set_next}
 use Rattle.lms_sign.proofs.one_time.private_elements.Goals as goal
 
-pub starts-preserved : goal.starts-preserved
-starts-preserved c = (
+pub lanes-preserved : goal.lanes-preserved
+lanes-preserved c = (
   search rules,
-  rw c.from.ensures (set_next (private_element c.args.secret.now c.args.q) c.starts.strings c.starts.i
-      c.chain_step.result [] (omega arith) c.chain_step.ensures c.starts.invariant.1),
+  λ n below. set_next (private_element c.args.secret.now c.args.q) c.lanes.strings (8 * c.groups.group + c.lanes.k) _ []
+      (omega arith) (c.eight_elements-elements.ensures c.args.secret.now.id c.args.q c.lanes.k (omega arith)
+      c.begin_steps-begun.ensures (omega arith)) c.lanes.invariant.1 n (omega arith),
 )
-
-pub returns : goal.returns
-returns c i below = c.starts.invariant.1 i (omega arith)

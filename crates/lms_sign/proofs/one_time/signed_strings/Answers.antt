@@ -3,7 +3,6 @@ use Rattle.std.proofs.lemmas.List.{length-take-le}
 use Rattle.lms_sign.specs.declared.chains.Span.{Span}
 use Rattle.lms_sign.specs.OneTime.{digit, signed_string}
 use Rattle.lms_sign.proofs.Lists.{set_next}
-use Rattle.lms_sign.proofs.Sizes.{digit-le}
 use Rattle.lms_sign.proofs.one_time.signed_strings.Goals as goal
 
 pub digits-preserved : goal.digits-preserved
@@ -13,15 +12,6 @@ digits-preserved c =
       rw c.from.ensures (set_next span c.digits.spans c.digits.i _ (record { from = 0; to = 0 }) (omega arith)
           (rw c.digit-to.ensures.value refl) c.digits.invariant.1),
     )
-
-pub take_steps-requires-clause-spans : goal.take_steps-requires-clause-spans
-take_steps-requires-clause-spans c n below =
-    let k = c.from-2.result in
-    let spans = c.digits.spans in
-    let long : length (take k spans) ≡ k = length-take-le k spans (omega arith) in
-    let span = get_or-take k spans n (record { from = 0; to = 0 }) (omega arith)
-    ∙ c.digits.invariant.1 n (omega arith) in
-    rw span (omega arith, omega (arith, digit-le c.args.secret.now.types c.args.hash.now n))
 
 pub returns : goal.returns
 unfolding signed_string
