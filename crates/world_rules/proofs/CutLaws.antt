@@ -155,8 +155,7 @@ cuts_keep_as_appends_do dig world name calls outcome command n node deed effect 
     (sym (cut-is dig world name calls outcome command n node deed effect number node_is up deed_is is))
     (cut-to world n node calls outcome command deed short after
     (ap (λ b. if b then not node.is_up && nat_lt calls 3 else short) other)
-    (λ stops. ap (λ b. if not b && is_added calls (outcome_of outcome) then with_records node deed else node)
-    (sym other))
+    (grind (arith, common_steps))
     (λ ends. sym (kept-so node deed calls outcome ends)))
 
 -- an opening adds no record
@@ -170,8 +169,7 @@ cut_openings_leave_the_records dig world name opened calls outcome n node deed e
     subst (λ e. IsCutTo world n node (not node.is_up && nat_lt calls 3) deed e)
     (sym (cut-is dig world name calls outcome (Command.Open opened) n node deed effect number node_is
     (never node.is_up) deed_is is))
-    (cut-to world n node calls outcome (Command.Open opened) deed (not node.is_up && nat_lt calls 3) node refl
-    (λ stops. refl) (λ ends. sym (opening-none dig world n node opened deed deed_is)))
+    (grind (arith, common_steps, cut-to, opening-none))
   where
     never : (b : Bool) → (not b && false) ≡ false
     never true = refl

@@ -22,6 +22,7 @@ use Rattle.world_rules.specs.Safety.{was_deposited, holds_with, holds}
 use Rattle.world_rules.specs.Laws.{AreKept}
 use Rattle.world_rules.proofs.Said.{Said, said}
 use Rattle.world_rules.proofs.KeptWallet.{KeptWallet, state-me}
+use Rattle.world_rules.proofs.Runs.{push-same}
 
 -- ---- lists
 
@@ -58,10 +59,6 @@ get-before : {X : Type 0} (xs : List X) (y : X) (q : ℕ) → q < length xs
 get-before [] y q below = absurd (omega (arith, below))
 get-before (x ∷ xs) y zero below = refl
 get-before (x ∷ xs) y (suc q) below = get-before xs y q (omega (arith, below))
-
-get-last : {X : Type 0} (xs : List X) (y : X) → slice_get (xs ++ y ∷ []) (length xs) ≡ Some y
-get-last [] y = refl
-get-last (x ∷ xs) y = get-last xs y
 
 -- ---- leaves that sign a coin away
 
@@ -110,7 +107,7 @@ module _ (reclaimed taken : List ℕ)
 
       last-one : (n : ℕ) → n ≡ length bodies → sends_by reclaimed (leaves-of (body ∷ bodies)) c e (0 + n)
           ≡ (spends_tip c e (record-of body) && not (is_taken taken n))
-      last-one n is = grind (arith, common_steps, leaves-of, leaves-length, leaves-push, record-of, get-last)
+      last-one n is = grind (arith, common_steps, leaves-of, leaves-length, leaves-push, record-of, push-same)
 
       joined : (b : Bool)
           → (is_sent_from (not_taken taken bodies) c e || (spends_tip c e (record-of body) && not b))

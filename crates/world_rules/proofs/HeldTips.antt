@@ -88,7 +88,7 @@ pub coin-stays : (event : Event) (events : List Event) (c : ℕ) (made : CoinVie
 unfolding log_of
 coin-stays event events c made is = grind (arith, common_steps, coin_at-grown)
 
-accepted-stay : (event : Event) (events : List Event) (w c e : ℕ)
+pub accepted-stay : (event : Event) (events : List Event) (w c e : ℕ)
     → list_any (is_bundle c e) (accepted events w) ≡ true
     → list_any (is_bundle c e) (accepted (event ∷ events) w) ≡ true
 unfolding accepted
@@ -102,7 +102,7 @@ pub record IsTip (events : List Event) (w c e : ℕ) : Type 0 where
   pub owner : wallet_owner events w ≡ Some me
   pub at : (was_deposited me e (coin_at (log_of events) c) || list_any (is_bundle c e) (accepted events w)) ≡ true
 
-deposited-stays : (event : Event) (events : List Event) (me : Owner) (c e : ℕ)
+pub deposited-stays : (event : Event) (events : List Event) (me : Owner) (c e : ℕ)
     → was_deposited me e (coin_at (log_of events) c) ≡ true
     → was_deposited me e (coin_at (log_of (event ∷ events)) c) ≡ true
 deposited-stays event events me c e is = grind (arith, common_steps, false≢true, coin-stays)

@@ -1,5 +1,5 @@
 -- What holds of a world besides its nodes behind every act, and what orders may take from such a world.
-use Rattle.std.proofs.Common.{◌≡◌, ℕ, suc, ◌^◌, ◌<◌, ◌≤◌, Bool, true, false, if◌then◌else◌, List, [], ◌∷◌, ◌++◌, length, Option, Some, None, refl, sym, ap, ◌∙◌, subst, arith}
+use Rattle.std.proofs.Common.{◌≡◌, ℕ, suc, ◌^◌, ◌<◌, ◌≤◌, Bool, true, false, if◌then◌else◌, List, [], ◌∷◌, ◌++◌, length, Option, Some, None, refl, sym, subst, arith}
 use Rattle.std.specs.Prelude.{slice_get, find, option_map}
 use Rattle.std.specs.List.{AllByRecursion}
 use Rattle.std.specs.Option.{option_or}
@@ -155,9 +155,5 @@ pub joined-wallet : (dig : List ℕ → List ℕ) (world : World) → HasFrame w
     → IsOfChain world who → IsFitNew (NewWallet who) → (log : List RootCall) (n : ℕ)
     → KeptWallet dig (told (Declares n (owner_of who)) nothing_said) log (new_wallet who)
 joined-wallet dig world frame who of fit log n =
-    new-wallet-kept dig who (record {
-      tag = ap length of.tag ∙ frame.tag_long;
-      account = fit.0;
-      seed = ap length of.is_seed;
-      types = fit.1;
-    }) log n (subst Small (sym of.tag) frame.tag) (subst Small (sym of.is_seed) (small-padded of.seed))
+    new-wallet-kept dig who (grind (arith, common_steps)) log n (subst Small (sym of.tag) frame.tag)
+    (subst Small (sym of.is_seed) (small-padded of.seed))

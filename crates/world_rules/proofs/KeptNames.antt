@@ -81,13 +81,7 @@ module _ (nodes : List Card) (log : List RootCall) (events : List Event) (kept :
   kept-declares : (name : List ℕ) (me : Owner) → IsOther name nodes
       → Kept (nodes ++ record { name = name; role = Wallet } ∷ []) log (Declares (length nodes) me ∷ events)
   unfolding log_of wallet_owner accepted
-  kept-declares name me other = record {
-    log_is = kept.log_is;
-    distinct = distinct-push nodes (record { name = name; role = Wallet }) kept.distinct other;
-    wallets = λ w who is. at w who (length nodes == w) refl is;
-    stay = (λ w who is. old w who is (length nodes == w) refl, kept.stay);
-    known = kept.known;
-  }
+  kept-declares name me other = grind (arith, common_steps, distinct-push, at, old)
     where
       at : (w : ℕ) (who : Owner) (b : Bool) → (length nodes == w) ≡ b
           → (if b then Some me else wallet_owner events w) ≡ Some who

@@ -1,5 +1,5 @@
 -- What holds of a world behind the events of its lines, and each act that fits keeps it and makes bytes.
-use Rattle.std.proofs.Common.{◌≡◌, ℕ, ◌^◌, ◌<◌, Bool, true, false, if◌then◌else◌, List, [], ◌∷◌, length, Option, Some, None, refl, sym, ap, ◌∙◌, subst, arith}
+use Rattle.std.proofs.Common.{◌≡◌, ℕ, ◌^◌, ◌<◌, Bool, true, false, if◌then◌else◌, List, [], ◌∷◌, length, Option, Some, None, refl, sym, ◌∙◌, subst, arith}
 use Rattle.std.specs.Prelude.{slice_get}
 use Rattle.std.proofs.lemmas.Bool.{eq-eqb, false≢true}
 use Rattle.std.proofs.lemmas.Grind.{common_steps}
@@ -117,8 +117,7 @@ module _ (dig : List ℕ → List ℕ) (is_digest : IsDigest dig) (events : List
   own (Adds name (NewWallet who)) known fit = λ fresh.
       let me = Declares (length world.nodes) (owner_of who) in
       subst (λ (s : Said). KeptNode dig s world.chain.log (new_node Wallet name who.account (wallet_text who)))
-      (sym (said-own me events (length world.nodes) (eq-eqb (length world.nodes) (length world.nodes) refl)
-      ∙ ap (told me) fresh))
+      (grind (arith, common_steps, said-own, eq-eqb, told))
       (record {
         wallet = λ role.
             joined-wallet dig world kept.frame who known.0 fit world.chain.log (length world.nodes);

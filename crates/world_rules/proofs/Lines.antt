@@ -182,10 +182,7 @@ module _ (world : World) where
         cut-done : cut_effect dig world calls outcome command place.number node
             ≡ Some (done dig world (order_act (Some the_cut) place order))
         unfolding done
-        cut-done =
-            given-effect (cut world place.number node calls outcome command)
-            ∙ ap (λ (e : LineEffect). if is_down_for order node then Some (down world) else Some e) cut-ends
-            ∙ by (is_down_for order node)
+        cut-done = grind (arith, common_steps, given-effect, cut-ends, by)
           where
             by : (b : Bool)
                 → (if b then Some (down world)
@@ -282,9 +279,7 @@ module _ (world : World) where
       let same = where-some (bytes_eq (node_of command) node) (command_act world (Some cut) command) act is in
       let one = understood world (Some cut) command act same.1 in
       command-is (Line.Cut node calls outcome command) (Some cut) command act (inr (node, calls, outcome, refl)) one
-      (λ dig.
-      acted dig (plays command) (node_of command) one.place one.at (cut_effect dig world calls outcome command)
-      ∙ cut-done dig command one.place one.order one.order_is calls outcome)
+      (grind (arith, common_steps, acted, cut-done))
 
   module _ (dig : List ℕ → List ℕ) where
     -- the step of the line, by whether it has an act

@@ -29,7 +29,6 @@ use Rattle.world_rules.proofs.OperatorItems.{AreSmallRecords, prove-small, bundl
 use Rattle.world_rules.specs.Laws.{IsDigest}
 use Rattle.world_rules.proofs.Said.{Said, told}
 use Rattle.node_replies.proofs.WalletEnds.{SendEnds, Refused, Sends, send_ends}
-use Rattle.world_rules.proofs.KeptWallet.{KeptWallet}
 use Rattle.world_rules.proofs.WalletAccepts.{accepts-kept}
 use Rattle.world_rules.proofs.WalletSends.{sends-kept}
 use Rattle.world_rules.proofs.WalletNotes.{reclaims-kept, leaves-kept, migrates-kept}
@@ -99,9 +98,7 @@ module _ (dig : List ℕ → List ℕ) (is_digest : IsDigest dig) (s : Said) (wo
         (sent-made coin to last fit.1.key)
     wallet-kept (WalletOrder.Again coin) fit =
         of-wallet dig s log node role (deed_by (NodeOrder.Wallet (WalletOrder.Again coin)))
-        (each-answer (λ r. KeptWallet dig (told (event_of n (NodeOrder.Wallet (WalletOrder.Again coin)) r) s) log
-        wallet)
-        wallet_cause on_sent (again_answer wallet coin) (λ sent is. kept.wallet role) (λ why. kept.wallet role))
+        (grind (arith, common_steps, each-answer, told))
         (again-made coin)
     wallet-kept (WalletOrder.Leave coin) fit =
         let effect = leave_effect dig wallet log coin in

@@ -23,7 +23,7 @@ use Rattle.world_rules.proofs.KeptNames.{Kept}
 use Rattle.world_rules.proofs.NamedSteps.{run-kept}
 
 -- coins are counted from 1
-coin_at-positive : (log : List RootCall) (c : ℕ) (made : CoinView) → coin_at log c ≡ Some made → 1 ≤ c
+pub coin_at-positive : (log : List RootCall) (c : ℕ) (made : CoinView) → coin_at log c ≡ Some made → 1 ≤ c
 unfolding coin_at
 coin_at-positive [] c made is = absurd (cc is)
 coin_at-positive (Deposit account amount key ∷ log) c made is = elim (cases_eq c (coins log + 1)) [
@@ -87,5 +87,4 @@ verdicts_are_of_held_coins dig lines run world verdict ran world_is found =
     let coin = from-coin (verdict_of tests rules events wallet) (coins (log_of events)) 1 verdict from.among in
     let here : 0 + from.place ≡ from.place = omega arith in
     on-held dig run world verdict from.place from.node coin.0 kept.stay from.is_node
-    (subst (λ (k : ℕ). IsVerdict tests rules events (record { number = k; name = from.node.name }) coin.0 verdict)
-    here (verdict-is tests rules events wallet coin.0 verdict coin.1))
+    (grind (arith, common_steps, verdict-is))

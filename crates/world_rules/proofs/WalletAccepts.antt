@@ -58,7 +58,7 @@ known-more : (me : Owner) (log : List RootCall) (one other : Bool) (c e : ℕ) �
 known-more me log one other c e more known = grind (arith, common_steps, or_cases, or_left, or_right)
 
 -- the coin and the tip of a bundle
-bundle-is : (c e : ℕ) (bundle : Bundle) → is_bundle c e bundle ≡ true → (bundle.coin ≡ c) × (bundle.tip ≡ e)
+pub bundle-is : (c e : ℕ) (bundle : Bundle) → is_bundle c e bundle ≡ true → (bundle.coin ≡ c) × (bundle.tip ≡ e)
 bundle-is c e bundle is = grind (arith, common_steps, and_parts, eqb-true)
 
 module _ (dig : List ℕ → List ℕ) (s : Said) (log : List RootCall) (wallet : WalletRecords)
