@@ -1,20 +1,9 @@
 -- Each line of a run makes a move, so every run keeps what moves keep.
-use Rattle.std.proofs.Common.{◌≡◌, ℕ, not, Bool, true, false, if◌then◌else◌, List, [], ◌∷◌, Some, refl, sym, ap, ◌&&◌, arith}
-use Rattle.std.proofs.lemmas.Bool.{and_parts, false≢true}
-use Rattle.std.proofs.lemmas.Grind.{common_steps}
-use Rattle.plasma_tx.specs.declared.call.RootCall.{RootCall}
+use Rattle.world_rules.proofs.Basics.{◌≡◌, ℕ, not, Bool, true, false, if◌then◌else◌, List, [], ◌∷◌, Some, refl, sym, ap, ◌&&◌, arith, and_parts, false≢true, common_steps}
+use Rattle.world_rules.proofs.CoinWords.{RootCall, tests_by, rules_of, answer_to, is_accepted, log_after}
+use Rattle.world_rules.proofs.NodeWords.{wallet_text, owner_of}
+use Rattle.world_rules.proofs.WorldWords.{Line, Event, Declares, Joins, Bounces, log_of, wallet_owner, accepted, Wallet, Watcher, Node, World, is_new_name, is_wallet_account, Deed, new_node, after_crash, TraceEntry, entry_of, Run, run_of, events_of, NewWallet, NewWatcher, NewRogue, Act, Rests, Signs, Adds, Enters, Orders, Crashes, End, end_of, node_after, deed_at, done, IsActIn}
 use Rattle.plasma_tx.specs.declared.answer.Answer.{Answer}
-use Rattle.plasma_tx.specs.Shown.{tests_by, rules_of}
-use Rattle.plasma_tx.specs.Table.{answer_to, is_accepted, log_after}
-use Rattle.schedule_text.specs.declared.line.Line.{Line}
-use Rattle.node_rules.specs.WalletRecords.{identity_text as wallet_text, owner_of}
-use Rattle.world_rules.specs.Events.{Event, Declares, Joins, Bounces, log_of, wallet_owner, accepted}
-use Rattle.world_rules.specs.World.{Wallet, Watcher, Node, World}
-use Rattle.world_rules.specs.Declarations.{is_new_name, is_wallet_account}
-use Rattle.world_rules.specs.Deeds.{Deed}
-use Rattle.world_rules.specs.Steps.{new_node, after_crash, TraceEntry, entry_of, Run, run_of, events_of}
-use Rattle.world_rules.specs.Acts.{NewWallet, NewWatcher, NewRogue, Act, Rests, Signs, Adds, Enters, Orders, Crashes, End, end_of, node_after, deed_at, done}
-use Rattle.world_rules.specs.Evidence.{IsActIn}
 use Rattle.world_rules.proofs.Lives.{begun, IsAny, any_run, runs_keep}
 use Rattle.world_rules.proofs.Named.{Card, card, cards, new-other, cards-set, cards-push, cards-length}
 use Rattle.world_rules.proofs.KeptNames.{Kept, Move, Rests as Stays, Enters as Joining, Takes, Adds as AddsNode, AddsWallet, kept-move}

@@ -1,11 +1,6 @@
 -- The log and the mail of a run are those of its events and of what its lines made.
-use Rattle.std.proofs.Common.{◌≡◌, ℕ, List, [], ◌∷◌, map, reverse, refl, arith}
-use Rattle.std.proofs.lemmas.Grind.{common_steps, reverse_onto}
-use Rattle.world_rules.specs.Events.{Event, log_of}
-use Rattle.world_rules.specs.World.{World}
-use Rattle.world_rules.specs.Steps.{events_of}
-use Rattle.world_rules.specs.Acts.{Act, done}
-use Rattle.world_rules.specs.Laws.{LogsAreOfEvents, ItemsAreMade}
+use Rattle.world_rules.proofs.Basics.{◌≡◌, ℕ, List, [], ◌∷◌, map, reverse, refl, arith, common_steps, reverse_onto}
+use Rattle.world_rules.proofs.WorldWords.{Event, log_of, World, events_of, Act, done, LogsAreOfEvents, ItemsAreMade}
 use Rattle.world_rules.proofs.StepLaws.{act-log}
 use Rattle.world_rules.proofs.Lives.{line_effect, IsAny, any_run, runs_keep}
 

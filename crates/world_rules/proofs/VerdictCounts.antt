@@ -1,19 +1,8 @@
 -- How many verdicts there are on a wallet and a coin, and what a verdict is on.
-use Rattle.std.proofs.Common.{◌≡◌, ◌⊎◌, ℕ, zero, suc, ◌+◌, ◌<◌, ◌≤◌, cond, Bool, true, false, if◌then◌else◌, List, [], ◌∷◌, ◌++◌, slice_get, bytes_eq, Contains, count_by, flat_map, filter_map, Option, Some, None, inl, inr, refl, ap, ◌∙◌, subst, arith, rules}
-use Rattle.std.specs.List.{cons_option, range_with_len}
-use Rattle.std.proofs.lemmas.Bool.{cases_eq, eq-eqb, ne_eqb, and_from, and_left, and_right}
+use Rattle.world_rules.proofs.Basics.{◌≡◌, ◌⊎◌, ℕ, zero, suc, ◌+◌, ◌<◌, ◌≤◌, cond, Bool, true, false, if◌then◌else◌, List, [], ◌∷◌, ◌++◌, slice_get, bytes_eq, Contains, count_by, flat_map, filter_map, Option, Some, None, inl, inr, refl, ap, ◌∙◌, subst, arith, rules, cons_option, range_with_len, cases_eq, eq-eqb, ne_eqb, and_from, and_left, and_right, Contains-append_cases, common_steps}
+use Rattle.world_rules.proofs.CoinWords.{Owner, coins, Tests, Rules}
+use Rattle.world_rules.proofs.WorldWords.{and_then_some, option_map_some, Verdict, Event, log_of, wallet_owner, Node, is_wallet_role, held_tip, Named, verdict_at, verdict_of, wallets_from, verdicts_on, is_on}
 use Rattle.std.proofs.lemmas.List.Sums.{sum_by-cons, sum_by-append}
-use Rattle.std.proofs.lemmas.List.Elements.{Contains-append_cases}
-use Rattle.std.proofs.lemmas.Grind.{common_steps}
-use Rattle.line_forms.proofs.FormLaws.{and_then_some, option_map_some}
-use Rattle.plasma_tx.specs.declared.owner.Owner.{Owner}
-use Rattle.plasma_tx.specs.Views.{coins}
-use Rattle.plasma_tx.specs.Shown.{Tests, Rules}
-use Rattle.world_rules.specs.declared.verdict.Verdict.{Verdict}
-use Rattle.world_rules.specs.Events.{Event, log_of, wallet_owner}
-use Rattle.world_rules.specs.World.{Node, is_wallet_role}
-use Rattle.world_rules.specs.Verdicts.{held_tip, Named, verdict_at, verdict_of, wallets_from, verdicts_on}
-use Rattle.world_rules.specs.Laws.{is_on}
 use Rattle.world_rules.proofs.Named.{card, cards, IsOther, AreDistinct, names-flip, own-name, other-at, card-at}
 
 -- ---- counts
@@ -54,8 +43,7 @@ module _ (p : Verdict → Bool) (f : ℕ → Option Verdict) where
       → ((k : ℕ) (other : Verdict) → (k ≡ c → ⊥) → f k ≡ Some other → p other ≡ false) → over start n ≡ 1
   coins-one zero start c v low high is passes fail = absurd (omega arith)
   coins-one (suc n) start c v low high is passes fail = elim (cases_eq start c) [
-    | inl here ↦
-        grind (arith, common_steps, count-yes, coins-none)
+    | inl here ↦ grind (arith, common_steps, count-yes, coins-none)
     | inr past ↦
         grind (arith, common_steps, coins-one n (start + 1) c v (omega arith) (omega arith) is passes fail, skip, past)
   ]
