@@ -20,13 +20,13 @@ use Rattle.watch_duty.proofs.Members.{Has, has-contains, contains-has}
 use Rattle.world_rules.specs.Events.{Joins, log_of}
 use Rattle.world_rules.specs.Exhibits.{collides}
 use Rattle.world_laws.specs.Headline.{lacks_bond}
-use Rattle.world_laws.proofs.Lists.{some_same, found-has, passes-has}
+use Rattle.world_laws.proofs.Lists.{some_same, found-has, passes-has, has-kept}
 use Rattle.world_laws.proofs.Before.{none-before, forged-parts, legal-before}
-use Rattle.world_laws.proofs.DueCalls.{has-kept}
 use Rattle.world_laws.proofs.DueTaken.{due_calls_are_taken}
 use Rattle.money_laws.specs.MoneyLaws.{LegalBondsComeBack, BondsComeBack, cancels, LegalCancelsNeedNoMoney, CancelsNeedNoMoney}
 use Rattle.money_laws.proofs.Ends.{ends_pay_bonds}
-use Rattle.money_laws.proofs.Tips.{tips_stay_open, legal-to}
+use Rattle.money_laws.proofs.Tips.{tips_stay_open}
+use Rattle.world_laws.proofs.Promises.{legal-to}
 
 -- a challenge's bond is among those of its account
 own-bond : (challenges : List Challenge) (challenge : Challenge) → Has challenges challenge

@@ -23,7 +23,7 @@ use Rattle.plasma_tx.specs.Shown.{tests_by, rules_of}
 use Rattle.world_rules.specs.Events.{log_of}
 use Rattle.world_laws.proofs.Shown.{legal-log, legal-table}
 use Rattle.money_laws.specs.MoneyLaws.{LeadersOfRunsArePaid, FirstsOfRunsArePaid}
-use Rattle.money_laws.proofs.Tips.{legal-to}
+use Rattle.world_laws.proofs.Promises.{legal-to}
 use Rattle.money_laws.specs.First.{is_ripe, is_missed, ends_lead, leads, has_led, ends_first, LeadersArePaid, FirstsLead, FirstsArePaid}
 
 -- ---- challenges are made in their window

@@ -30,7 +30,8 @@ use Rattle.money_laws.specs.Keepers.{IsKeeper}
 use Rattle.money_laws.specs.MoneyLaws.{stands_first, wins, wins_in, OnlyGuards, OnlyGuarded, LegalGuardingCostsNothing, GuardingCostsNothing, LegalGuardiansHaveTheirMoney, GuardiansHaveTheirMoney}
 use Rattle.money_laws.proofs.SumsOver.{begun, ended, changed}
 use Rattle.money_laws.proofs.Ends.{ends_pay_bonds}
-use Rattle.money_laws.proofs.Tips.{tips_are_not_answered, legal-to}
+use Rattle.money_laws.proofs.Tips.{tips_are_not_answered}
+use Rattle.world_laws.proofs.Promises.{legal-to}
 
 -- those of the challenges that are open
 abbrev open_challenges_in : List Challenge → List Challenge

@@ -17,7 +17,7 @@ use Rattle.world_laws.proofs.Bound.{Holding, holding}
 use Rattle.world_laws.proofs.Before.{none-before, forged-parts, legal-before}
 use Rattle.world_laws.proofs.Safe.{looked-parts, watched}
 use Rattle.money_laws.specs.MoneyLaws.{is_late, goes_late, is_in_time, LegalLookedAfterIsInTime, LookedAfterIsInTime}
-use Rattle.money_laws.proofs.Tips.{legal-to}
+use Rattle.world_laws.proofs.Promises.{legal-to}
 
 module _ (events : List Event) (w c e : ℕ) (h : Holding events w c e)
     (all : AllWatched c h.me e (now (log_of events)) (exits (log_of events))) where

@@ -36,7 +36,7 @@ use Rattle.money_laws.specs.Reserve.{needs_before, asks, Tip, reserve_of, is_at_
 use Rattle.money_laws.specs.MoneyLaws.{is_before_at, IsOnOffer, AreOnOffer, LegalReserveSuffices, ReserveSuffices}
 use Rattle.money_laws.proofs.Reserves.{over-one, tip-one, Could}
 use Rattle.money_laws.proofs.InOrder.{CouldBe, IsReady, AreReady, in-order}
-use Rattle.money_laws.proofs.Tips.{legal-to}
+use Rattle.world_laws.proofs.Promises.{legal-to}
 
 -- a Before that is due is of an exit that asks for it
 record IsAsked (log : List RootCall) (c : ℕ) (shown : Shown) : Type 0 where

@@ -26,7 +26,8 @@ use Rattle.coin_safety.specs.Advice.{standing, tip, exit_in, due}
 use Rattle.coin_safety.specs.Words.{answer_end, window_end, end_of_call}
 use Rattle.coin_safety.specs.Laws.{AreAhead}
 use Rattle.safety_laws.specs.Look.{IsLook}
-use Rattle.safety_laws.proofs.AtLook.{has-flat, standing-has, ahead-window, ahead-answer, at, others-apart, others-seen, tip-seen, StandsTill}
+use Rattle.safety_laws.proofs.AtLook.{standing-has, ahead-window, ahead-answer, at, others-apart, others-seen, tip-seen, StandsTill}
+use Rattle.world_laws.proofs.Lists.{has-in-flat_map}
 
 -- ---- what is found in the views
 
@@ -135,7 +136,7 @@ module _ (dig : List ℕ → List ℕ) (digest : IsDigest dig) (rules : Rules) (
             (ap (λ b. is_none (challenge_at b y.challenges)) look.tip_is ∙ free))) [
               | inl found ↦ elim (exit-ends y there own found.0
                   (due_for-due (log_of events) account kept.links (exit_view y) found.0 found.1)
-                  (due-ends found.0 (has-flat (due_for (log_of events) account kept.links)
+                  (due-ends found.0 (has-in-flat_map (due_for (log_of events) account kept.links)
                   (exits_of (log_of events) kept.links.coin) (exit_view y) found.0
                   (standing-has (log_of events) kept y there own) found.1))) [
                     | inl less ↦ inr (omega (arith, less, early))

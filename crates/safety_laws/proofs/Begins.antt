@@ -15,8 +15,8 @@ use Rattle.money_laws.specs.MoneyLaws.{goes_late, is_in_time}
 use Rattle.safety_laws.specs.Look.{AreShort}
 use Rattle.safety_laws.specs.Safe.{LegalHoldersBeginInTime}
 use Rattle.safety_laws.proofs.AtLook.{StandsTill}
-use Rattle.safety_laws.proofs.Since.{legal-look}
 use Rattle.safety_laws.proofs.Timely.{GoesTill, none-goes, stays-in-time}
+use Rattle.world_laws.proofs.Promises.{suffix-legal}
 
 -- no exit of the coin stands there
 none-yet : (tests : Tests) (rules : Rules) (event : Event) (events : List Event) (w c e : ℕ)
@@ -32,7 +32,7 @@ pub holders_begin_in_time : LegalHoldersBeginInTime
 unfolding is_in_time
 holders_begin_in_time tests rules later event events w c e legal unheld held short so_far =
     let all : List Event = event ∷ events in
-    let before = legal-look tests rules later (event ∷ events) legal in
+    let before = suffix-legal tests rules later (event ∷ events) legal in
     let h = holding (event ∷ events) w c e held in
     let none = none-yet tests rules event events w c e before unheld h in
     let end : ℕ = now (log_of (later ++ (event ∷ events))) in

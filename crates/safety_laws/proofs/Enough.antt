@@ -12,7 +12,7 @@ use Rattle.watch_duty.proofs.Members.{Has, has-contains}
 use Rattle.world_rules.specs.Events.{log_of}
 use Rattle.world_laws.proofs.Shown.{legal-log}
 use Rattle.money_laws.specs.Reserve.{AreAccepted}
-use Rattle.money_laws.proofs.Tips.{legal-to}
+use Rattle.world_laws.proofs.Promises.{legal-to}
 use Rattle.coin_safety.specs.Advice.{standing, tip, takes, missing, calls_of}
 use Rattle.coin_safety.specs.Laws.{is_poor, with_calls}
 use Rattle.coin_safety.proofs.Advised.{none_is_poor}

@@ -20,7 +20,7 @@ use Rattle.coin_safety.specs.Words.{next_line, starter}
 use Rattle.coin_safety.specs.Laws.{IsPaidOut, Tells}
 use Rattle.coin_safety.proofs.Telling.{words_tell}
 use Rattle.safety_laws.specs.Gone.{WasPaidTo, IsOut, LegalGoneMeansGone, LegalPaidMeansPaid}
-use Rattle.safety_laws.proofs.Since.{legal-look}
+use Rattle.world_laws.proofs.Promises.{suffix-legal}
 
 -- ---- the event that entered a call of the log
 
@@ -110,7 +110,7 @@ unfolding IsLegal
 told-paid tests rules events c account line legal out =
     let call : RootCall = Finish out.by c out.exit in
     let at = entered events out.newer call out.older out.stands in
-    let here = legal-look tests rules at.later (Joins call ∷ at.earlier)
+    let here = suffix-legal tests rules at.later (Joins call ∷ at.earlier)
     (subst (IsLegal tests rules) at.events_are legal) in
     let log : List RootCall = log_of at.earlier in
     let s = accepted_calls_show tests rules log call here.0.accepted in

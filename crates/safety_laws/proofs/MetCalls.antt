@@ -19,12 +19,12 @@ use Rattle.world_rules.specs.Events.{Event, log_of}
 use Rattle.world_rules.specs.Safety.{is_mine}
 use Rattle.world_laws.specs.Legal.{IsLegal}
 use Rattle.world_laws.specs.Looked.{is_before, fulfils}
-use Rattle.world_laws.proofs.Lists.{passes-has, any-either}
+use Rattle.world_laws.proofs.Lists.{passes-has, any-either, has-in-flat_map}
 use Rattle.coin_safety.specs.declared.kept.Kept.{Kept}
 use Rattle.coin_safety.specs.Advice.{tip, due}
 use Rattle.coin_safety.specs.Laws.{AreAhead}
 use Rattle.safety_laws.specs.Look.{IsLook, begins_own, are_met}
-use Rattle.safety_laws.proofs.AtLook.{has-flat, standing-has, ahead-window, ahead-answer, at, look-shown, others-apart, others-seen, tip-seen, StandsTill}
+use Rattle.safety_laws.proofs.AtLook.{standing-has, ahead-window, ahead-answer, at, look-shown, others-apart, others-seen, tip-seen, StandsTill}
 use Rattle.safety_laws.proofs.Since.{IsOld, WasOpenThen, IsShut, from-look, own-shut}
 
 module _ (dig : List ℕ → List ℕ) (digest : IsDigest dig) (rules : Rules) (within events : List Event)
@@ -91,7 +91,7 @@ module _ (dig : List ℕ → List ℕ) (digest : IsDigest dig) (rules : Rules) (
               (ap (λ b. is_none (challenge_at b o.y.challenges)) look.tip_is ∙ none))) [
                 | inl found ↦ due-met free apart found.0
                     (due_for-due (log_of events) account kept.links (exit_view o.y) found.0 found.1)
-                    (has-flat (due_for (log_of events) account kept.links) (exits_of (log_of events) kept.links.coin)
+                    (has-in-flat_map (due_for (log_of events) account kept.links) (exits_of (log_of events) kept.links.coin)
                     (exit_view o.y) found.0 (standing-has (log_of events) kept o.y o.there own) found.1)
                 | inr challenged ↦ true≢false (sym free ∙ o.challenged e challenged)
               ]

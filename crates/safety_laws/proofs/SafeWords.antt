@@ -27,8 +27,9 @@ use Rattle.safety_laws.specs.Safe.{LegalSafeMeansSafe, LegalLeavingMeansSafe, Le
 use Rattle.safety_laws.proofs.AtLook.{at, standing-has, StandsTill, calm-stands}
 use Rattle.safety_laws.proofs.ActLook.{stands-there, act-stands}
 use Rattle.safety_laws.proofs.MetCalls.{met-stands}
-use Rattle.safety_laws.proofs.Since.{IsShut, legal-look, clock-since, owner-since, own-since}
+use Rattle.safety_laws.proofs.Since.{IsShut, clock-since, owner-since, own-since}
 use Rattle.safety_laws.proofs.Timely.{GoesTill, stays-in-time}
+use Rattle.world_laws.proofs.Promises.{suffix-legal}
 
 -- where nothing is due, nothing is, and no window ended
 calm-told : (log : List RootCall) (account clock : ℕ) (kept : Kept) (word : Word) → is_calm word ≡ true
@@ -74,7 +75,7 @@ module _ (dig : List ℕ → List ℕ) (digest : IsDigest dig) (rules : Rules) (
     (n w c e account clock : ℕ) (kept : Kept) (legal : IsLegal (tests_by dig) rules (later ++ events))
     (look : IsLook dig rules events n w c e kept) where
   before : IsLegal (tests_by dig) rules events
-  before = legal-look (tests_by dig) rules later events legal
+  before = suffix-legal (tests_by dig) rules later events legal
 
   abbrev Me : Owner
   Me = (at dig digest rules events n w c e account kept before look).hold.me
@@ -114,7 +115,7 @@ module _ (dig : List ℕ → List ℕ) (digest : IsDigest dig) (rules : Rules) (
     whole = subst (IsLegal (tests_by dig) rules) split legal
 
     mid : IsLegal (tests_by dig) rules (r.within ++ events)
-    mid = legal-look (tests_by dig) rules r.after (r.within ++ events) whole
+    mid = suffix-legal (tests_by dig) rules r.after (r.within ++ events) whole
 
     acted : Tells (log_of events) account clock kept (Act r.by r.money)
     acted = told (log_of events) account clock kept (Act r.by r.money) r.word_is
@@ -238,4 +239,4 @@ looks_are_enough dig rules (look ∷ looks) first w c e digest legal are so_far 
     let events : List Event = events_after looks first in
     look-keeps dig digest rules look.later events look.node w c e look.account look.clock look.kept legal are.0 are.1
     (looks_are_enough dig rules looks first w c e digest
-    (legal-look (tests_by dig) rules look.later events legal) are.2 so_far)
+    (suffix-legal (tests_by dig) rules look.later events legal) are.2 so_far)

@@ -66,13 +66,6 @@ abbrev pub IsShut : List Event → Owner → ℕ → ℕ → Type 0
 IsShut events me c e = (y : Exit) → Has (exits (log_of events)) y → IsOwnAt me c e y
     → y.start + CHALLENGE_WINDOW ≤ now (log_of events)
 
--- the events up to the look are legal
-pub legal-look : (tests : Tests) (rules : Rules) (later events : List Event) → IsLegal tests rules (later ++ events)
-    → IsLegal tests rules events
-unfolding IsLegal
-legal-look tests rules [] events legal = legal
-legal-look tests rules (event ∷ later) events legal = legal-look tests rules later events legal.1
-
 module _ (tests : Tests) (rules : Rules) (events : List Event) where
   -- the clock doesn't go back
   pub clock-since : (later : List Event) → IsLegal tests rules (later ++ events)

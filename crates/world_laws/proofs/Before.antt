@@ -19,13 +19,13 @@ use Rattle.world_rules.specs.Events.{Event, Declares, Joins, Accepts, Binds, Tak
 use Rattle.world_rules.specs.Exhibits.{openings_of, seen, strings_in, strings_of, has_clash, forges_one, is_forged}
 use Rattle.world_rules.specs.Safety.{was_deposited}
 use Rattle.world_laws.specs.Legal.{deposits_by, IsLegal}
-use Rattle.world_laws.proofs.Lists.{some_same, none_some, any-some, append-assoc}
+use Rattle.world_laws.proofs.Lists.{some_same, none_some, any-some, append-assoc, has-kept}
 use Rattle.world_laws.proofs.Clash.{one_leaf}
 use Rattle.world_laws.proofs.Shown.{all_shown, seen-grow}
 use Rattle.world_laws.proofs.Absences.{names, away-untake, away-unbind, parted, back-more}
 use Rattle.world_laws.proofs.Bound.{Holding, is_noted, owner-is}
 use Rattle.world_laws.proofs.Held.{held_at}
-use Rattle.world_laws.proofs.DueCalls.{has-mapped, has-kept}
+use Rattle.world_laws.proofs.DueCalls.{has-mapped}
 use Rattle.world_laws.proofs.Watched.{AtEvent}
 
 -- ---- events that don't exhibit didn't before
@@ -68,7 +68,7 @@ withdrawn-before (Finish account k f) log c none =
     (or_parts ((k == c) && has_no_open_challenge (exit_at log k f)) (is_withdrawn log c) none).1
 withdrawn-before call log c none = none
 
-deposit-caller : (log : List RootCall) (c : ℕ) (made : CoinView) → coin_at log c ≡ Some made
+pub deposit-caller : (log : List RootCall) (c : ℕ) (made : CoinView) → coin_at log c ≡ Some made
     → list_any (deposits_by made.owner.account) log ≡ true
 unfolding coin_at
 deposit-caller [] c made is = absurd (none_some made is)

@@ -115,7 +115,7 @@ poor-same : (log : List RootCall) (account : ℕ) (links : Links) (x : ExitView)
 poor-same log account links x call h5 = grind (arith, common_steps)
 
 -- the openings of the history and of the log's calls have one leaf in each block
-leaves-of : (tests : Tests) (events : List Event) (c : ℕ) (os : List RawOpening)
+pub leaves-of : (tests : Tests) (events : List Event) (c : ℕ) (os : List RawOpening)
     → HasOneLeaf tests (log_of events) c (seen events c) → ((o : RawOpening) → Has os o → Has (seen events c) o)
     → HaveOneLeaf tests (log_of events) c (log_seen (log_of events) c ++ os)
 leaves-of tests events c os one has a b root in_a in_b same committed opens_a opens_b =

@@ -1,6 +1,6 @@
 -- What a watcher's records keep is shown by a bundle that events say it guards: one of the same coin and tip, with the
 -- same links.
-use Rattle.std.proofs.Common.{◌≡◌, ◌⊎◌, ℕ, not, Bool, true, false, if◌then◌else◌, cond, ◌^◌, ◌<◌, List, [], ◌∷◌, filter, Option, Some, None, Ok, Err, inl, inr, refl, sym, ap, ◌∙◌, subst, lit<, arith}
+use Rattle.std.proofs.Common.{◌≡◌, ◌⊎◌, ℕ, not, Bool, true, false, if◌then◌else◌, ◌^◌, ◌<◌, List, [], ◌∷◌, filter, Option, Some, None, Ok, Err, inl, inr, refl, sym, ap, ◌∙◌, subst, lit<, arith}
 use Rattle.std.specs.Prelude.{Result, IfSome}
 use Rattle.std.specs.List.{list_any}
 use Rattle.std.proofs.lemmas.Bool.{false≢true}
@@ -36,6 +36,7 @@ use Rattle.world_rules.proofs.KeptWatcher.{KeptWatcher}
 use Rattle.world_rules.proofs.KeptNode.{IsFitOrder, watcher-alone}
 use Rattle.world_rules.specs.Evidence.{has_order}
 use Rattle.world_laws.proofs.Handed.{handed-history}
+use Rattle.world_laws.proofs.Lists.{has-kept}
 
 -- a bundle shows a kept coin: it is of the coin and the tip, and has the links
 pub record IsShown (tag : List ℕ) (bundles : List Bundle) (kept : Bundle) : Type 0 where
@@ -55,12 +56,6 @@ has-guard : (kept : Bundle) (guards : List Bundle) (other : Bundle) → Has (wit
     → (kept ≡ other) ⊎ Has guards other
 has-guard kept guards other h = grind (arith, common_steps, has-cases, has-filter)
 
-filter-has : {X : Type 0} (p : X → Bool) (xs : List X) (x : X) → Has xs x → p x ≡ true → Has (filter p xs) x
-filter-has p [] x h passes = absurd h
-filter-has p (y ∷ ys) x (inl same) passes =
-    subst (λ b. Has (cond b (y ∷ filter p ys) (filter p ys)) x) (sym (ap p same ∙ passes)) (inl same)
-filter-has p (y ∷ ys) x (inr h) passes = grind (arith, common_steps, filter-has p ys x h passes)
-
 -- one more bundle shows no less
 pub shown-more : (tag : List ℕ) (bundle : Bundle) (bundles guards : List Bundle) → AreShown tag bundles guards
     → AreShown tag (bundle ∷ bundles) guards
@@ -70,7 +65,7 @@ shown-more tag bundle bundles guards shown kept has = grind (arith, common_steps
 shown-released : (tag : List ℕ) (c e : ℕ) (bundles guards : List Bundle) → AreShown tag bundles guards
     → AreShown tag (filter (λ bundle. not (is_bundle c e bundle)) bundles)
     (filter (λ kept. not (is_of c e kept)) guards)
-shown-released tag c e bundles guards shown kept has = grind (arith, common_steps, has-filter, filter-has)
+shown-released tag c e bundles guards shown kept has = grind (arith, common_steps, has-filter, has-kept)
 
 -- ---- a watcher's commands
 

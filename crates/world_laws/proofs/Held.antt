@@ -1,5 +1,5 @@
 -- What the histories of a coin have in common, and what the holder's shows.
-use Rattle.std.proofs.Common.{◌≡◌, ◌⊎◌, ℕ, ◌<◌, ◌≤◌, ◌==◌, true, false, List, [], Option, Some, None, inl, inr, refl, sym, ap, ◌∙◌, subst, arith, rules}
+use Rattle.std.proofs.Common.{◌≡◌, ◌⊎◌, ℕ, ◌<◌, ◌≤◌, true, false, List, [], Option, Some, None, inl, inr, refl, sym, ap, ◌∙◌, subst, arith, rules}
 use Rattle.std.specs.Prelude.{is_some}
 use Rattle.std.specs.List.{list_any}
 use Rattle.std.proofs.lemmas.Bool.{cases_lt, eqb-true, and_parts, or_cases, false≢true}
@@ -27,6 +27,7 @@ use Rattle.world_laws.proofs.Histories.{place_of, history-walk}
 use Rattle.world_laws.proofs.Shown.{IsShownAt, Deposited, Transferred}
 use Rattle.world_laws.proofs.Absences.{parted}
 use Rattle.world_laws.proofs.Bound.{SignsBy, Holding, is_noted, IsSince, bound_since, unspent, owner-is}
+use Rattle.world_rules.proofs.WalletAccepts.{bundle-is}
 
 -- a history of the coin up to e, of these openings
 pub record Known (tests : Tests) (rules : Rules) (log : List RootCall) (os : List RawOpening) (c : ℕ)
@@ -148,10 +149,6 @@ pub known-from : (tests : Tests) (rules : Rules) (log : List RootCall) (os : ℕ
 known-from tests rules log os b links c e made history has c_is e_is found =
     grind (arith, common_steps, walk-as, some_same, history-walk)
 
-pub bundle-named : (c e : ℕ) (b : Bundle) → is_bundle c e b ≡ true → (b.coin ≡ c) × (b.tip ≡ e)
-bundle-named c e b is =
-    let parts = and_parts (b.coin == c) (b.tip == e) is in (eqb-true b.coin c parts.0, eqb-true b.tip e parts.1)
-
 -- ---- the coin that is held
 
 pub record HeldAt (tests : Tests) (rules : Rules) (events : List Event) (w c e : ℕ) (me : Owner) : Type 0 where
@@ -181,7 +178,7 @@ held_at tests rules events w c e legal h =
       | inr accepted_is ↦
           let r = any-some (is_bundle c e) (accepted events w) accepted_is in
           let n = is_noted tests rules events w r.0 legal r.1 in
-          let name = bundle-named c e r.0 r.2 in
+          let name = bundle-is c e r.0 r.2 in
           let mine : last_owner_of n.links ≡ h.me = n.mine ∙ some_same n.me h.me (sym n.me_is ∙ h.me_is) in
           let found : coin_at (log_of events) c ≡ Some n.history.made =
           ap (coin_at (log_of events)) (sym name.0) ∙ n.history.coin in
@@ -237,5 +234,5 @@ module _ (tests : Tests) (rules : Rules) (signs : SignsBy tests) (events : List 
             (record { block = e; owner = h.me }) held.known.walk in
             omega (arith, up, d.2, ap (λ (m : CoinView). m.deposit) same)
         | inr accepted_is ↦
-            grind (arith, any-some, bundle-named, no_later)
+            grind (arith, any-some, bundle-is, no_later)
       ]

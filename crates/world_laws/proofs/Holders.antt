@@ -12,6 +12,7 @@ use Rattle.world_rules.specs.Declarations.{is_wallet_account}
 use Rattle.world_rules.proofs.Runs.{push-same, push-other}
 use Rattle.world_laws.specs.Legal.{starts_by, deposits_by}
 use Rattle.world_laws.proofs.Lists.{some_same}
+use Rattle.std.proofs.lemmas.Map.Keys.{any_passes_from_place}
 
 -- the account of a wallet's node
 abbrev pub holder : Node → Option ℕ
@@ -57,12 +58,6 @@ holders-push (node ∷ nodes) new = ap (λ (rest : List (Option ℕ)). holder no
 
 -- ---- the tests of declarations
 
-any-at : {A : Type 0} (p : A → Bool) (xs : List A) (n : ℕ) (x : A) → slice_get xs n ≡ Some x → p x ≡ true
-    → list_any p xs ≡ true
-any-at p [] n x is passes = absurd (cc is)
-any-at p (y ∷ ys) zero x is passes = or_left (p y) (list_any p ys) (ap p (some_same y x is) ∙ passes)
-any-at p (y ∷ ys) (suc n) x is passes = or_right (p y) (list_any p ys) (any-at p ys n x is passes)
-
 pub any-filter : (p q : Node → Bool) (xs : List Node) (n : ℕ) (x : Node) → slice_get xs n ≡ Some x → q x ≡ true
     → p x ≡ true → list_any p (filter q xs) ≡ true
 any-filter p q [] n x is kept passes = absurd (cc is)
@@ -78,7 +73,7 @@ pub held-declared : (nodes : List Node) (account : ℕ) → IsHeld (holders node
     → list_any (λ (node : Node). node.account == account) nodes ≡ true
 held-declared nodes account held =
     let found = held-node nodes held.0 account held.1 in
-    any-at (λ (node : Node). node.account == account) nodes held.0 found.0 found.1
+    any_passes_from_place (λ (node : Node). node.account == account) nodes held.0 found.0 found.1
     (eq-eqb found.0.account account found.3)
 
 pub held-wallet : (world : World) (account : ℕ) → IsHeld (holders world.nodes) account

@@ -1,6 +1,6 @@
 -- What holds in the world of every run behind its events: who the nodes are, what they offer, and whose accounts the
 -- log's calls move.
-use Rattle.std.proofs.Common.{◌≡◌, ℕ, zero, suc, ◌==◌, true, false, if◌then◌else◌, List, [], ◌∷◌, ◌++◌, length, Option, Some, None, inl, inr, refl, sym, ap, ◌∙◌, subst, set, slice_get, le_refl, arith, rules}
+use Rattle.std.proofs.Common.{◌≡◌, ℕ, ◌==◌, true, false, if◌then◌else◌, List, [], ◌∷◌, ◌++◌, length, Option, Some, None, inl, inr, refl, sym, ap, ◌∙◌, subst, set, slice_get, le_refl, arith, rules}
 use Rattle.std.specs.List.{list_any}
 use Rattle.std.proofs.lemmas.Bool.{and_parts, or_parts, or_left, or_right, not-true, eqb-true, false≢true}
 use Rattle.std.proofs.lemmas.Option.{slice_get_past}
@@ -31,7 +31,7 @@ use Rattle.world_rules.proofs.Nodes.{change_of, EachNode, IsOther, IsKeptOwn, ea
 use Rattle.world_rules.proofs.Same.{IsSame, same-after}
 use Rattle.world_rules.proofs.Told.{OperatorIsFirst, by-end, commands-others, said-others, rules-stay}
 use Rattle.world_laws.specs.Headline.{IsRun}
-use Rattle.world_laws.proofs.Lists.{some_same, none_some}
+use Rattle.world_laws.proofs.Lists.{some_same, none_some, got-has}
 use Rattle.world_laws.proofs.Acts.{over_events}
 use Rattle.world_laws.proofs.Holders.{holder, holders, IsHeld, holder-wallet, holder-at, holders-set, holders-push, held-declared, Moves, IsKnown, KeepAccounts, accounts-push, accounts-callers, accounts-call}
 use Rattle.world_laws.proofs.Identities.{IsOfRole, IsWallet, IsWatcher, IsNode, IsNodeAt, IsOffer, wallet-node, watcher-who, owner-same, owner-own, owner-new, role-stays, node-same, first-recorded, wallet-identity}
@@ -54,15 +54,9 @@ held-by nodes n node account is role same = (n, holder-is nodes n node account i
 pub plain-moves : (call : RootCall) (account : ℕ) → is_plain call ≡ true → Moves account call → ⊥
 plain-moves call account plain moves = grind (arith, common_steps, false≢true)
 
--- an offer with a number is one of the offers
-slice-has : (xs : List RootCall) (n : ℕ) (x : RootCall) → slice_get xs n ≡ Some x → Has xs x
-slice-has [] n x is = absurd (cc is)
-slice-has (y ∷ ys) zero x is = inl (some_same y x is)
-slice-has (y ∷ ys) (suc n) x is = inr (slice-has ys n x is)
-
 pub offered-has : (number : ℕ) (node : Node) (call : RootCall) → offer_numbered number node ≡ Some call
     → Has node.offers call
-offered-has number node call is = grind (arith, common_steps, slice-has)
+offered-has number node call is = grind (arith, common_steps, got-has)
 
 -- a stranger's call moves its own account
 pub raw-moves : (world : World) (account : ℕ) (form : CallForm) (call : RootCall) (by : ℕ)

@@ -1,16 +1,14 @@
 -- What a wallet's leave and its watch offer is legal: the start of the exit of a coin at its top, and what is due for
 -- the coins that it holds there.
-use Rattle.std.proofs.Common.{◌≡◌, ◌≢◌, ℕ, zero, suc, ◌+◌, ◌<◌, ◌≤◌, List, [], ◌∷◌, Option, Some, None, Ok, Err, inl, inr, sym, ap, ◌∙◌, subst, arith, rules}
+use Rattle.std.proofs.Common.{◌≡◌, ◌≢◌, ℕ, zero, suc, ◌+◌, ◌<◌, ◌≤◌, List, [], Option, Some, None, Ok, Err, inl, inr, sym, ap, ◌∙◌, subst, arith, rules}
 use Rattle.std.specs.Prelude.{Result}
 use Rattle.std.specs.List.{Contains, range_with_len}
 use Rattle.std.specs.Option.{option_map_or}
-use Rattle.std.proofs.lemmas.Bool.{cases_eq, ne_eqb}
+use Rattle.std.proofs.lemmas.Bool.{cases_eq}
 use Rattle.std.proofs.lemmas.Grind.{common_steps}
 use Rattle.plasma_tx.specs.declared.owner.Owner.{Owner}
 use Rattle.plasma_tx.specs.declared.links.Links.{Links}
 use Rattle.plasma_tx.specs.declared.call.RootCall.{RootCall}
-use Rattle.plasma_tx.specs.declared.call.RootCall.TheVariants.{Deposit}
-use Rattle.plasma_tx.specs.declared.views.CoinView.{CoinView}
 use Rattle.plasma_tx.specs.Views.{coins, coin_at}
 use Rattle.coin_history.specs.declared.bundle.Bundle.{Bundle}
 use Rattle.plasma_tx.specs.Shown.{Rules}
@@ -30,22 +28,13 @@ use Rattle.world_rules.proofs.Said.{said}
 use Rattle.world_rules.proofs.KeptWallet.{KeptWallet}
 use Rattle.world_rules.proofs.HeldSame.{are_kept}
 use Rattle.world_laws.specs.Legal.{IsAtTop, IsGuarding, ShowsGuard, ShowsTip, LegalWatch, LegalLeave}
-use Rattle.world_laws.proofs.LegalWatches.{has-in-flat_map}
 use Rattle.world_laws.proofs.GuardsShown.{AreShown}
 use Rattle.world_laws.proofs.AcceptsShown.{node_with, accepted_in}
 use Rattle.world_laws.proofs.AtTops.{IsShownAt, IsHeldAt, held-at-tip, top-held, held-top, shown-at}
+use Rattle.world_laws.proofs.Lists.{has-in-flat_map}
+use Rattle.world_rules.proofs.VerdictLaws.{coin_at-positive}
 
 -- ---- the coins of a log
-
-coin-first : (log : List RootCall) (c : ℕ) (made : CoinView) → coin_at log c ≡ Some made → 1 ≤ c
-unfolding coin_at coins
-coin-first [] c made is = absurd (cc is)
-coin-first (Deposit account amount key ∷ log) c made is =
-    elim (cases_eq c (coins log + 1)) [
-      | inl last ↦ omega (arith, last)
-      | inr other ↦ coin-first log c made (simp (ne_eqb c (coins log + 1) other) at is)
-    ]
-coin-first (call ∷ log) c made is = coin-first log c made is
 
 range-has : (a n x : ℕ) → a ≤ x → x < a + n → Has (range_with_len a n) x
 range-has a zero x low high = absurd (omega (arith, low, high))
@@ -55,7 +44,7 @@ range-has a (suc n) x low high = elim (cases_eq a x) [
 ]
 
 coin-among : (log : List RootCall) (c : ℕ) → coin_at log c ≢ None → Has (range_with_len 1 (coins log)) c
-coin-among log c there = grind (arith, common_steps, range-has, coin-first, coin_at-le)
+coin-among log c there = grind (arith, common_steps, range-has, coin_at-positive, coin_at-le)
 
 -- a start that is answered
 as_answer : RootCall → Result RootCall WalletRefusal

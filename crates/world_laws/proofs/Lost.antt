@@ -3,7 +3,7 @@ use Rattle.std.proofs.Common.{◌≡◌, ◌⊎◌, ℕ, ◌+◌, ◌==◌, ◌&
 use Rattle.std.specs.Prelude.{nat_le}
 use Rattle.std.specs.Option.{option_or}
 use Rattle.std.specs.List.{list_any}
-use Rattle.std.proofs.lemmas.Bool.{cases_Bool, eq-eqb, eqb-true, le-leb, and_parts, and_from, or_parts, or_cases, or_from, or_right, not-true, not_from_false, true≢false, false≢true, false_from_ne_true}
+use Rattle.std.proofs.lemmas.Bool.{cases_Bool, eq-eqb, eqb-true, le-leb, and_parts, and_from, or_parts, or_cases, or_from, not-true, not_from_false, true≢false, false≢true, false_from_ne_true}
 use Rattle.std.proofs.lemmas.Grind.{common_steps}
 use Rattle.plasma_tx.specs.declared.owner.Owner.{Owner}
 use Rattle.plasma_tx.specs.declared.call.RootCall.{RootCall}
@@ -27,32 +27,22 @@ use Rattle.world_laws.specs.Looked.{is_looked_after}
 use Rattle.world_laws.proofs.Lists.{some_same, none_some, found-has}
 use Rattle.world_laws.proofs.Bound.{owner-stays, holding}
 use Rattle.world_laws.proofs.Guards.{holds-from}
-use Rattle.world_laws.proofs.Offers.{left_start, coin-stays}
+use Rattle.world_laws.proofs.Offers.{left_start}
 use Rattle.world_laws.specs.Invariant.{IfOf, AllWatched}
 use Rattle.world_laws.proofs.Before.{none-before, forged-parts, legal-before}
 use Rattle.world_laws.proofs.Safe.{looked-parts, watched, safe-event}
 use Rattle.world_laws.proofs.OwnExits.{IsOwnAt, IfOwn, IsStartedBy, came-from, undeclared-none, own_kept}
 use Rattle.world_laws.proofs.Exhibited.{or-none}
+use Rattle.world_rules.proofs.HeldTips.{accepted-stay, deposited-stays}
 
 -- ---- holding goes on
-
-deposited-on : (event : Event) (events : List Event) (me : Owner) (c e : ℕ)
-    → was_deposited me e (coin_at (log_of events) c) ≡ true
-    → was_deposited me e (coin_at (log_of (event ∷ events)) c) ≡ true
-deposited-on event events me c e is = grind (arith, common_steps, false≢true, coin-stays)
-
-accepted-on : (event : Event) (events : List Event) (w c e : ℕ)
-    → list_any (is_bundle c e) (accepted events w) ≡ true
-    → list_any (is_bundle c e) (accepted (event ∷ events) w) ≡ true
-unfolding accepted
-accepted-on event events w c e is = grind (arith, common_steps, or_right)
 
 holds-on : (tests : Tests) (rules : Rules) (event : Event) (events : List Event) (w c e : ℕ)
     → IsLegal tests rules (event ∷ events) → holds events w c e ≡ true
     → is_sent_from (signed_away_by (event ∷ events) w) c e ≡ false
     → is_withdrawn (log_of (event ∷ events)) c ≡ false → holds (event ∷ events) w c e ≡ true
 holds-on tests rules event events w c e legal is not_away stays =
-    grind (arith, common_steps, holding, holds-from, owner-stays, deposited-on, accepted-on)
+    grind (arith, common_steps, holding, holds-from, owner-stays, deposited-stays, accepted-stay)
 
 -- ---- what one call does
 

@@ -23,7 +23,7 @@ use Rattle.node_rules.specs.Watcher.{due_for_kept}
 use Rattle.watch_duty.specs.Duty.{due_for, due_of}
 use Rattle.watch_duty.proofs.Members.{Has, all-has, contains-has, has-flat_map}
 use Rattle.watch_duty.proofs.Dues.{IsDue as IsDueFor, due_for-due}
-use Rattle.world_rules.specs.Events.{Event, Joins, Leaves, log_of, coin_of_call, wallet_owner, accepted}
+use Rattle.world_rules.specs.Events.{Event, Leaves, log_of, coin_of_call, wallet_owner, accepted}
 use Rattle.node_replies.specs.Orders.{exit_block}
 use Rattle.world_laws.specs.Headline.{is_start}
 use Rattle.world_laws.specs.Legal.{starts_by, left_by, is_tip, ShowsTip, Taken, Bare, LegalLeave, IsLegal}
@@ -32,6 +32,7 @@ use Rattle.world_laws.proofs.Histories.{links-at}
 use Rattle.world_laws.proofs.Bound.{owner-stays, Holding, holding, is_noted}
 use Rattle.world_laws.proofs.Held.{held_at, deposited-coin}
 use Rattle.world_laws.proofs.Guards.{kept-some}
+use Rattle.world_rules.proofs.HeldTips.{coin-stays}
 
 -- ---- what is due starts no exit
 
@@ -104,7 +105,7 @@ pub record IsLeftStart (events : List Event) (w : ℕ) (call : RootCall) : Type 
   pub made_is : coin_at (log_of events) (coin_of_call call) ≡ Some made
   pub tip : is_tip events w me (coin_of_call call) (exit_block call) ≡ true
 
-tip-held : (events : List Event) (w c e : ℕ) (h : Holding events w c e) → is_tip events w h.me c e ≡ true
+pub tip-held : (events : List Event) (w c e : ℕ) (h : Holding events w c e) → is_tip events w h.me c e ≡ true
 tip-held events w c e h = grind (arith, common_steps, or_left, or_right)
 
 -- a tip stays one, whatever comes
@@ -112,12 +113,6 @@ tip-grows : (event : Event) (events : List Event) (w : ℕ) (me : Owner) (c n : 
     → coin_at (log_of events) c ≡ Some made → is_tip events w me c n ≡ true → is_tip (event ∷ events) w me c n ≡ true
 unfolding log_of accepted
 tip-grows event events w me c n made found is = grind (arith, common_steps, coin_at-grown, or_cases, or_left, or_right)
-
-pub coin-stays : (event : Event) (events : List Event) (c : ℕ) (made : CoinView)
-    → coin_at (log_of events) c ≡ Some made → coin_at (log_of (event ∷ events)) c ≡ Some made
-unfolding log_of
-coin-stays (Joins call) events c made is = coin_at-grown (log_of events) call c made is
-coin-stays event events c made is = is
 
 module _ (tests : Tests) (rules : Rules) where
   -- a leave names the coin and the tip at which the wallet holds it

@@ -114,7 +114,7 @@ left-grow : (event : Event) (events : List Event) (w c e : ℕ) → is_left (lef
 unfolding left_by
 left-grow event events w c e is = grind (arith, common_steps, or_right)
 
-left-has : (event : Event) (events : List Event) (w : ℕ) (call : RootCall) → Has (left_by events w) call
+pub left-has : (event : Event) (events : List Event) (w : ℕ) (call : RootCall) → Has (left_by events w) call
     → Has (left_by (event ∷ events) w) call
 unfolding left_by
 left-has event events w call h = grind (arith, common_steps)

@@ -87,16 +87,18 @@ fresh-watch (event ∷ later) n calls earlier since =
     ∙ ap (λ b. if b then [] else fresh_offers (later ++ Watches n calls ∷ earlier) n) both.1
     ∙ fresh-watch later n calls earlier parts.1
 
--- every run's events are legal
-legal : (dig : List ℕ → List ℕ) (lines : List Line) (run : Run) (world : World)
-    → IsRun dig lines run world → IsLegal (tests_by dig) (rules_of world.chain) (events_of run.entries)
-legal = runs-legal
+-- the events up to a line of a run are legal
+pub legal-to : (dig : List ℕ → List ℕ) (lines : List Line) (run : Run) (world : World) (later events : List Event)
+    → IsRun dig lines run world → events_of run.entries ≡ later ++ events
+    → IsLegal (tests_by dig) (rules_of world.chain) events
+legal-to dig lines run world later events is split =
+    suffix-legal (tests_by dig) (rules_of world.chain) later events
+    (subst (IsLegal (tests_by dig) (rules_of world.chain)) split (runs-legal dig lines run world is))
 
 pub looked_after_are_safe : LookedAfterCoinsAreSafe
 looked_after_are_safe dig lines run world later events event w c e is split looked whole honest =
     legal_coins_are_safe dig (rules_of world.chain) event events w c e is.digest
-    (suffix-legal (tests_by dig) (rules_of world.chain) later (event ∷ events)
-    (subst (IsLegal (tests_by dig) (rules_of world.chain)) split (legal dig lines run world is)))
+    (legal-to dig lines run world later (event ∷ events) is split)
     looked whole honest
 
 pub held_coins_are_safe : HeldCoinsAreSafe
@@ -107,13 +109,12 @@ held_coins_are_safe dig lines run world later events event w c e is split attend
 pub often_is_enough : LookingOftenIsEnough
 often_is_enough dig lines run world later events w c e is split often =
     often_looked_after (tests_by dig) (rules_of world.chain) events w c e
-    (suffix-legal (tests_by dig) (rules_of world.chain) later events
-    (subst (IsLegal (tests_by dig) (rules_of world.chain)) split (legal dig lines run world is))) often
+    (legal-to dig lines run world later events is split) often
 
 pub one_holds : OneWalletHolds
 one_holds dig lines run world v w c d e is apart before whole honest other held also =
     one_wallet_holds dig (rules_of world.chain) (events_of run.entries) v w c d e is.digest
-    (legal dig lines run world is) apart (declared v before.one) (declared w before.other) whole honest other held
+    (runs-legal dig lines run world is) apart (declared v before.one) (declared w before.other) whole honest other held
     also
   where
     declared : (u : ℕ) → is_some (wallet_owner before.earlier u) ≡ true
@@ -129,15 +130,14 @@ due_are_taken dig lines run world n calls call is fresh has whole rich =
     ∙ fresh-watch fresh.later n calls fresh.earlier fresh.since in
     ap (λ l. is_accepted (answer_to (tests_by dig) (rules_of world.chain) l call)) log
     ∙ due_calls_are_taken dig (rules_of world.chain) (events_of run.entries) n call is.digest
-    (legal dig lines run world is) (subst (λ cs. Contains cs call) (sym offers) has) whole
+    (runs-legal dig lines run world is) (subst (λ cs. Contains cs call) (sym offers) has) whole
     (ap (λ l. lacks_bond l call) (sym log) ∙ rich)
 
 pub harms_are_takings : HarmsAreTakings
 unfolding IsLegal
 harms_are_takings dig lines run world later events event me w c e is split owner held =
     legal-takings (tests_by dig) (rules_of world.chain) events event me w c e
-    (suffix-legal (tests_by dig) (rules_of world.chain) later (event ∷ events)
-    (subst (IsLegal (tests_by dig) (rules_of world.chain)) split (legal dig lines run world is))).0
+    (legal-to dig lines run world later (event ∷ events) is split).0
     owner held
 
 pub lost_is_shown : LostIsExhibited
@@ -145,7 +145,7 @@ unfolding exhibit_of_run
 lost_is_shown dig lines run world verdict is has lost nothing =
     let held = verdicts_are_of_held_coins dig lines run world verdict is.run_is is.world_is has in
     lost_is_exhibited dig (rules_of world.chain) (events_of run.entries) held.number verdict.coin held.tip held.owner
-    is.digest (legal dig lines run world is) held.is_owner (sym held.kind ∙ lost)
+    is.digest (runs-legal dig lines run world is) held.is_owner (sym held.kind ∙ lost)
     (sym (ap (λ w. option_map_or (λ world. exhibit_of dig world.chain.tag (events_of run.entries)) w
     Exhibit.Nothing) is.world_is) ∙ nothing)
 
@@ -163,7 +163,7 @@ taken_went_unseen dig lines run world verdict is has taken =
         → WentUnseen dig run world verdict ⊎ (exhibit_of_run dig run ≢ Exhibit.Nothing)
     by_exhibit Exhibit.Nothing nothing held shown =
         let u = taken_unseen dig (rules_of world.chain) (events_of run.entries) held.number verdict.coin held.tip
-        held.owner is.digest (legal dig lines run world is) held.is_owner nothing
+        held.owner is.digest (runs-legal dig lines run world is) held.is_owner nothing
         (ap is_taken_kind (sym held.kind) ∙ taken) in
         inl (record {
           held = held;
@@ -181,4 +181,4 @@ starts_taken dig lines run world w account call is offer start held =
     let log = logs_are_of_events dig lines run world is.run_is is.world_is in
     subst (λ l. IsTaken l account call (answer_to (tests_by dig) (rules_of world.chain) l call)) (sym log)
     (starts_are_taken dig (rules_of world.chain) (events_of run.entries) w account call
-    (legal dig lines run world is) offer start held)
+    (runs-legal dig lines run world is) offer start held)

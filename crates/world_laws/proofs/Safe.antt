@@ -27,7 +27,7 @@ use Rattle.world_laws.specs.Looked.{goes_unseen, is_looked_after}
 use Rattle.world_laws.proofs.Before.{none-before, forged-parts, HeldBefore, held_before, legal-before, at_event}
 use Rattle.world_laws.proofs.Looks.{tick-keeps}
 use Rattle.world_laws.proofs.Steps.{KeepsTick, keeps}
-use Rattle.world_laws.proofs.Harms.{call-harmless, refused-harmless}
+use Rattle.world_laws.proofs.Harms.{call-harmless, refused-harmless, finish-harmless}
 use Rattle.watch_duty.proofs.Members.{contains-has}
 
 -- ---- looked after
@@ -133,11 +133,15 @@ module _ (dig : List ℕ → List ℕ) (digest : IsDigest dig) (rules : Rules) (
       → harms (tests_by dig) rules (log_of events) (Some h.me) c e event ≡ false
   unfolding IsLegal openings_of at_event
   harmless (Joins call) events legal none forged h all =
-      call-harmless (tests_by dig) rules (λ tx owner is. is) events w c e legal.1 (seen (Joins call ∷ events) c)
-      (at_event dig digest rules w c e (Joins call) events legal.1 none h) all call (seen-call call events c) forged
+      let at = at_event dig digest rules w c e (Joins call) events legal.1 none h in
+      call-harmless (tests_by dig) rules (λ tx owner is. is) events w c e legal.1 (seen (Joins call ∷ events) c) at
+      (finish-harmless (tests_by dig) rules (λ tx owner is. is) events w c e legal.1 (seen (Joins call ∷ events) c) at
+      all) call (seen-call call events c) forged
   harmless (Bounces call) events legal none forged h all =
-      refused-harmless (tests_by dig) rules (λ tx owner is. is) events w c e legal.1 (seen (Bounces call ∷ events) c)
-      (at_event dig digest rules w c e (Bounces call) events legal.1 none h) all call legal.0
+      let at = at_event dig digest rules w c e (Bounces call) events legal.1 none h in
+      refused-harmless (tests_by dig) rules (λ tx owner is. is) events w c e legal.1 (seen (Bounces call ∷ events) c) at
+      (finish-harmless (tests_by dig) rules (λ tx owner is. is) events w c e legal.1 (seen (Bounces call ∷ events) c) at
+      all) call legal.0
   harmless event events legal none forged h all = refl
 
   -- the newest event is harmless

@@ -1,5 +1,5 @@
 -- A message that a leaf binds is a body's bytes, and the events of a run say which body each leaf binds.
-use Rattle.std.proofs.Common.{◌≡◌, ℕ, zero, suc, ◌==◌, true, false, if◌then◌else◌, List, [], ◌∷◌, ◌++◌, length, drop, reverse, Option, Some, None, Ok, Err, is_ok, inl, inr, refl, sym, ap, ◌∙◌, append-nil, arith}
+use Rattle.std.proofs.Common.{◌≡◌, ℕ, ◌==◌, true, false, if◌then◌else◌, List, [], ◌∷◌, ◌++◌, length, drop, reverse, Option, Some, None, Ok, Err, is_ok, inl, inr, refl, sym, ap, ◌∙◌, append-nil, arith}
 use Rattle.std.specs.Prelude.{Result, slice_get, option_map}
 use Rattle.std.specs.Option.{option_map_or}
 use Rattle.std.specs.List.{slice_range, range_with_len}
@@ -27,12 +27,7 @@ use Rattle.node_replies.proofs.ByteTexts.{Small}
 use Rattle.world_rules.proofs.Said.{Said}
 use Rattle.world_rules.proofs.KeptWallet.{KeptWallet}
 use Rattle.world_rules.proofs.Runs.{push-same, push-other}
-use Rattle.world_laws.proofs.Lists.{some_same, none_some, find-has}
-
-slice-has : {A : Type 0} (xs : List A) (n : ℕ) (x : A) → slice_get xs n ≡ Some x → Has xs x
-slice-has [] n x is = absurd (none_some x is)
-slice-has (y ∷ ys) zero x is = inl (some_same y x is)
-slice-has (y ∷ ys) (suc n) x is = inr (slice-has ys n x is)
+use Rattle.world_laws.proofs.Lists.{none_some, find-has, got-has}
 
 -- ---- a message's bytes
 
@@ -109,7 +104,7 @@ module _ (dig : List ℕ → List ℕ) (s : Said) (log : List RootCall) (wallet 
   pub message-body : (q : ℕ) (message : List ℕ) → slice_get (messages_of wallet.leaves) q ≡ Some message
       → IsMessage q message
   message-body q message at =
-      let has = slice-has (messages_of wallet.leaves) q message at in
+      let has = got-has (messages_of wallet.leaves) q message at in
       let read : List ℕ → LeafRecord = λ m. record { body = body_at_start m } in
       record {
         body = body_at_start message;

@@ -64,7 +64,7 @@ stands log x h =
     (and_from (x.coin == x.coin) (x.block == x.block) (eq-eqb x.coin x.coin refl) (eq-eqb x.block x.block refl))
 
 -- a parent is before the exit
-parent-below : (log : List RootCall) (made : CoinView) (exit : ℕ) (parent : Shown) → made.deposit < exit
+pub parent-below : (log : List RootCall) (made : CoinView) (exit : ℕ) (parent : Shown) → made.deposit < exit
     → is_parent_of log made exit parent ≡ true → block_of parent < exit
 parent-below log made exit parent low fits = grind (arith, common_steps, eqb-true, ltb-true, and_parts)
 
