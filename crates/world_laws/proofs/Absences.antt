@@ -1,25 +1,7 @@
 -- What a wallet took back: no accepted opening of its coin shows it.
-use Rattle.std.proofs.Common.{◌≡◌, ◌⊎◌, ℕ, ◌<◌, ◌≤◌, ◌==◌, ◌&&◌, ◌||◌, Bool, true, false, if◌then◌else◌, List, [], ◌∷◌, length, Some, inl, inr, refl, sym, ap, ◌∙◌, subst, arith, rules}
-use Rattle.std.specs.List.{list_any}
-use Rattle.std.proofs.lemmas.Bool.{cases_Bool, cases_eq, eq-eqb, eqb-true, ne_eqb, leb-true, or_from, or_parts, true≢false}
-use Rattle.std.proofs.lemmas.Grind.{common_steps}
-use Rattle.plasma_tx.specs.declared.body.Body.{Body}
-use Rattle.plasma_tx.specs.declared.opening.RawOpening.{RawOpening}
-use Rattle.plasma_tx.specs.declared.signed_tx.SignedTx.{SignedTx}
-use Rattle.plasma_tx.specs.declared.call.RootCall.{RootCall}
-use Rattle.plasma_tx.specs.declared.call.RootCall.TheVariants.{Deposit, Commit}
-use Rattle.plasma_tx.specs.Transfer.{may_stand_in}
-use Rattle.plasma_tx.specs.Views.{blocks}
-use Rattle.plasma_tx.proofs.Leaves.{transfer-read}
-use Rattle.plasma_tx.specs.Shown.{Tests, Rules, root_at}
-use Rattle.coin_history.specs.declared.bundle.Bundle.{Bundle}
-use Rattle.coin_history.specs.History.{leaf_of_opening, transfer_of}
-use Rattle.coin_history.proofs.HistoryGrow.{root_at-grown}
-use Rattle.watch_duty.proofs.Members.{Has, has-left}
-use Rattle.world_rules.specs.Events.{Event, Joins, TakesBack, log_of, bound_by, leaf_at, taken_back, is_taken, not_taken, signed_away_by, is_sent_from}
-use Rattle.world_rules.specs.Exhibits.{openings_of, seen}
-use Rattle.world_laws.specs.Legal.{LegalReclaim, IsLegal}
-use Rattle.world_laws.proofs.Lists.{some_same, none_some, any-some}
+use Rattle.world_laws.proofs.Basics.{◌≡◌, ◌⊎◌, ℕ, ◌<◌, ◌≤◌, ◌==◌, ◌&&◌, ◌||◌, Bool, true, false, if◌then◌else◌, List, [], ◌∷◌, length, Some, inl, inr, refl, sym, ap, ◌∙◌, subst, arith, rules, list_any, cases_Bool, cases_eq, eq-eqb, eqb-true, ne_eqb, leb-true, or_from, or_parts, true≢false, common_steps, some_same, none_some, any-some}
+use Rattle.world_laws.proofs.CoinWords.{Body, RawOpening, SignedTx, RootCall, Deposit, Commit, may_stand_in, blocks, transfer-read, Tests, Rules, root_at, Bundle, leaf_of_opening, transfer_of, root_at-grown, Has, has-left}
+use Rattle.world_laws.proofs.WorldWords.{Event, Joins, TakesBack, log_of, bound_by, leaf_at, taken_back, is_taken, not_taken, signed_away_by, is_sent_from, openings_of, seen, LegalReclaim, IsLegal}
 use Rattle.world_laws.proofs.Clash.{IsOpened}
 use Rattle.world_laws.proofs.Histories.{opened-grow, ShowsAbsent, absent-covers}
 use Rattle.world_laws.proofs.Shown.{seen-grow}

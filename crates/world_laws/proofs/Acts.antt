@@ -1,21 +1,7 @@
 -- In every run each line is an act: what is known of the next one, and induction over them.
-use Rattle.std.proofs.Common.{◌≡◌, ℕ, List, [], ◌∷◌, Some}
-use Rattle.schedule_text.specs.declared.line.Line.{Line}
-use Rattle.schedule_text.specs.Grammar.{IsLine}
-use Rattle.world_rules.specs.Events.{Event, Idle}
-use Rattle.world_rules.specs.World.{World}
-use Rattle.world_rules.specs.Steps.{TraceEntry, entry_of, Run, events_of}
-use Rattle.world_rules.proofs.KeptRun.{run-kept}
-use Rattle.world_rules.proofs.KeptWorld.{KeptWorld, world-feeds}
-use Rattle.world_rules.proofs.Lives.{begun}
-use Rattle.world_rules.specs.Acts.{Act, act_of, done}
-use Rattle.world_rules.specs.Evidence.{IsActIn}
-use Rattle.world_rules.proofs.Lines.{acts_are_known}
-use Rattle.world_rules.proofs.Fitting.{IsFitAct, act-fits}
-use Rattle.world_rules.proofs.Lives.{HasCome, line_effect, good_runs_keep}
+use Rattle.world_laws.proofs.Basics.{◌≡◌, ℕ, List, [], ◌∷◌, Some}
+use Rattle.world_laws.proofs.WorldWords.{Line, IsLine, Event, Idle, World, TraceEntry, entry_of, Run, events_of, run-kept, KeptWorld, world-feeds, begun, Act, act_of, done, IsActIn, acts_are_known, IsFitAct, act-fits, HasCome, line_effect, good_runs_keep, OperatorIsFirst, IsRun}
 use Rattle.world_rules.proofs.Operators.{operator_is_first}
-use Rattle.world_rules.proofs.Told.{OperatorIsFirst}
-use Rattle.world_laws.specs.Headline.{IsRun}
 
 -- what is kept behind the events of every run
 pub kept-world : (dig : List ℕ → List ℕ) (lines : List Line) (run : Run) (world : World) → IsRun dig lines run world

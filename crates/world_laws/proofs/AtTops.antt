@@ -1,38 +1,10 @@
 -- What a wallet holds at its top, as events say it, is what its records say that it holds or leaves with; and a bundle
 -- shows it.
-use Rattle.std.proofs.Common.{◌≡◌, ◌≢◌, ◌⊎◌, ℕ, ◌≤◌, ◌==◌, ◌&&◌, ◌||◌, Bool, true, false, if◌then◌else◌, List, [], ◌∷◌, find, Option, Some, None, inl, inr, refl, sym, ap, ◌∙◌, subst, arith}
-use Rattle.std.specs.Prelude.{unwrap_or}
-use Rattle.std.specs.List.{All, list_any}
-use Rattle.std.proofs.lemmas.Bool.{eqb-true, eq-eqb, and_parts, and_from, or_cases, or_left, or_right, true≢false, false≢true}
-use Rattle.std.proofs.lemmas.List.Elements.{All-nil, All-cons, All-contains}
-use Rattle.std.proofs.lemmas.Grind.{common_steps}
-use Rattle.plasma_tx.specs.declared.owner.Owner.{Owner}
-use Rattle.plasma_tx.specs.declared.call.RootCall.{RootCall}
-use Rattle.plasma_tx.specs.declared.views.CoinView.{CoinView}
-use Rattle.plasma_tx.specs.Views.{coin_at, is_withdrawn}
-use Rattle.coin_history.specs.declared.bundle.Bundle.{Bundle}
-use Rattle.wallet_core.specs.declared.notes.CoinTip.{CoinTip}
-use Rattle.wallet_core.specs.declared.notes.Notes.{Notes}
-use Rattle.wallet_core.specs.declared.coin_state.CoinState.TheVariants.{Leaving, Held}
-use Rattle.wallet_core.specs.State.{own_deposit, noted_tips, tips_of, is_noted}
-use Rattle.wallet_core.specs.Laws.{IsTip}
-use Rattle.wallet_core.proofs.StateLaws.{kept_coins_are_held, held_coins_are_kept}
-use Rattle.node_rules.specs.Kept.{kept_links}
-use Rattle.node_rules.specs.Watcher.{is_of}
-use Rattle.node_rules.specs.WalletRecords.{notes_of, owner_of, leaves_in, coin_tip}
-use Rattle.node_rules.specs.Wallet.{WalletRecords, who, noted, coin_state, kept_at}
-use Rattle.node_rules.proofs.WalletRole.{held-tip, leaving-tip}
-use Rattle.node_rules.proofs.ExitTips.{accepted-tips}
-use Rattle.watch_duty.proofs.Members.{Has, has-contains, contains-has, has-left, has-right, has-cases, has-filter, has-map, any-has, any-map}
-use Rattle.world_rules.specs.Events.{Event, log_of, accepted, is_bundle}
-use Rattle.world_rules.specs.Safety.{was_deposited, holds}
-use Rattle.world_rules.specs.Laws.{AreKept}
-use Rattle.world_rules.proofs.Said.{Said, said}
-use Rattle.world_rules.proofs.KeptWallet.{KeptWallet, state-me}
-use Rattle.world_rules.proofs.HeldSame.{are_kept}
-use Rattle.world_laws.specs.Legal.{is_tip, IsAtTop, ShowsTip, Taken, Bare}
-use Rattle.world_laws.proofs.Lists.{some_same, find-has}
-use Rattle.world_laws.proofs.Bound.{holding}
+use Rattle.world_laws.proofs.Basics.{◌≡◌, ◌≢◌, ◌⊎◌, ℕ, ◌≤◌, ◌==◌, ◌&&◌, ◌||◌, Bool, true, false, if◌then◌else◌, List, [], ◌∷◌, find, Option, Some, None, inl, inr, refl, sym, ap, ◌∙◌, subst, arith, unwrap_or, All, list_any, eqb-true, eq-eqb, and_parts, and_from, or_cases, or_left, or_right, true≢false, false≢true, All-nil, All-cons, All-contains, common_steps, some_same, find-has}
+use Rattle.world_laws.proofs.CoinWords.{Owner, RootCall, CoinView, coin_at, is_withdrawn, Bundle, CoinTip, Notes, Leaving, Held, own_deposit, noted_tips, tips_of, is_noted, IsTip, kept_coins_are_held, held_coins_are_kept, Has, has-contains, contains-has, has-left, has-right, has-cases, has-filter, has-map, any-has, any-map}
+use Rattle.world_laws.proofs.NodeWords.{kept_links, is_of, notes_of, owner_of, leaves_in, coin_tip, WalletRecords, who, noted, coin_state, kept_at, held-tip, leaving-tip, accepted-tips}
+use Rattle.world_laws.proofs.WorldWords.{Event, log_of, accepted, is_bundle, was_deposited, holds, AreKept, Said, said, KeptWallet, state-me, are_kept, is_tip, IsAtTop, ShowsTip, Taken, Bare}
+use Rattle.world_laws.proofs.HeldCoins.{holding}
 use Rattle.world_laws.proofs.GuardsShown.{IsShown, AreShown}
 use Rattle.world_laws.proofs.AcceptsShown.{node_with, accepted_in}
 

@@ -1,38 +1,11 @@
 -- A bundle that an operator makes that keeps to the rules is one of a history.
-use Rattle.std.proofs.Common.{◌≡◌, ℕ, zero, suc, ◌+◌, ◌^◌, ◌<◌, ◌≤◌, ◌==◌, Bool, true, false, if◌then◌else◌, List, [], ◌∷◌, length, filter, Contains, Option, Some, None, Ok, refl, sym, ap, ◌∙◌, subst, nat_lt, arith}
-use Rattle.std.specs.Option.{option_and_then}
-use Rattle.std.specs.Str.{bytes_eq}
-use Rattle.std.proofs.lemmas.Bool.{eq-eqb, and_from}
-use Rattle.std.proofs.lemmas.List.Elements.{Contains-append_left}
-use Rattle.std.proofs.lemmas.Slice.Eq.{bytes_eq-Decides}
-use Rattle.std.proofs.lemmas.Grind.{common_steps}
-use Rattle.sparse_merkle.specs.declared.tree.Entry.{Entry}
-use Rattle.sparse_merkle.specs.TreeDigest.{leaf_of}
-use Rattle.plasma_tx.specs.declared.owner.Owner.{Owner}
-use Rattle.plasma_tx.specs.declared.links.Links.{Links}
-use Rattle.plasma_tx.specs.declared.call.RootCall.{RootCall}
-use Rattle.plasma_tx.specs.declared.views.CoinView.{CoinView}
+use Rattle.world_laws.proofs.Basics.{◌≡◌, ℕ, zero, suc, ◌+◌, ◌^◌, ◌<◌, ◌≤◌, ◌==◌, Bool, true, false, if◌then◌else◌, List, [], ◌∷◌, length, filter, Contains, Option, Some, None, Ok, refl, sym, ap, ◌∙◌, subst, nat_lt, arith, option_and_then, bytes_eq, eq-eqb, and_from, Contains-append_left, bytes_eq-Decides, common_steps}
+use Rattle.world_laws.proofs.CoinWords.{Entry, leaf_of, Owner, Links, RootCall, CoinView, tip_of, last_owner_of, transfer_in, blocks, coins, block_at, coin_at, root_in, root_at, tests_by, Bundle, IsBundle, bundle_in, bundle_text, IsHistory, history_of, bundle_in-text, histories_are_found, is_owner}
+use Rattle.world_laws.proofs.NodeWords.{chain_of, checked_by, links_handed}
+use Rattle.world_laws.proofs.OperatorWords.{Note, forest_of, tree_of, tree_at, commits, start_of, moved_by, place_at, bundle_of, Act, log_of, kept_notes, times_committed, times_sealed, IsHonest, AreDistinct, root_at-deposit, sealed-tree}
+use Rattle.world_laws.proofs.WorldWords.{IsDigest}
 use Rattle.plasma_tx.specs.declared.views.BlockView.TheVariants.{Root}
-use Rattle.plasma_tx.specs.Links.{tip_of, last_owner_of}
-use Rattle.plasma_tx.specs.Transfer.{transfer_in}
-use Rattle.plasma_tx.specs.Views.{blocks, coins, block_at, coin_at}
-use Rattle.plasma_tx.specs.Shown.{root_in, root_at, tests_by}
-use Rattle.coin_history.specs.declared.bundle.Bundle.{Bundle}
-use Rattle.coin_history.specs.Bundles.{IsBundle, bundle_in, bundle_text}
-use Rattle.coin_history.specs.History.{IsHistory}
-use Rattle.coin_history.specs.Checking.{history_of}
-use Rattle.coin_history.proofs.BundleLaws.{bundle_in-text}
-use Rattle.coin_history.proofs.HistoryFound.{histories_are_found}
-use Rattle.wallet_core.specs.State.{is_owner}
-use Rattle.node_rules.specs.Kept.{chain_of, checked_by, links_handed}
-use Rattle.operator_rules.specs.Records.{Note}
-use Rattle.operator_rules.specs.Trees.{forest_of, tree_of, tree_at, commits}
-use Rattle.operator_rules.specs.Walk.{start_of, moved_by, place_at}
-use Rattle.operator_rules.specs.Commands.{bundle_of}
-use Rattle.operator_rules.specs.Acts.{Act, log_of, kept_notes, times_committed, times_sealed, IsHonest, AreDistinct}
 use Rattle.operator_rules.proofs.Made.{bundles_are_histories}
-use Rattle.operator_rules.proofs.Trees.{root_at-deposit, sealed-tree}
-use Rattle.world_rules.specs.Laws.{IsDigest}
 use Rattle.world_laws.proofs.OperatorGrowth.{HasTrees, tree-stays}
 
 -- ---- roots that are committed

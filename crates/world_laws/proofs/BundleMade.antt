@@ -1,37 +1,10 @@
 -- What a line makes that is answered with a bundle: the bytes of the bundle that the operator's notes and the log give.
-use Rattle.std.proofs.Common.{◌≡◌, ℕ, Bool, true, false, if◌then◌else◌, List, Option, Some, Ok, Err, refl, sym, ap, ◌∙◌, subst, slice_get, arith}
-use Rattle.std.specs.Prelude.{Result}
-use Rattle.std.proofs.lemmas.Bool.{false≢true, eq-eqb, eqb-true}
-use Rattle.std.proofs.lemmas.Grind.{common_steps}
-use Rattle.coin_history.specs.declared.bundle.Bundle.{Bundle}
-use Rattle.coin_history.specs.Bundles.{bundle_text}
-use Rattle.schedule_text.specs.declared.line.Line.{Line}
-use Rattle.schedule_text.specs.declared.command.Command.{Command}
-use Rattle.schedule_text.specs.declared.command.OperatorCommand.{OperatorCommand}
-use Rattle.schedule_text.specs.Grammar.{node_of}
-use Rattle.plasma_tx.specs.declared.call.RootCall.{RootCall}
-use Rattle.plasma_tx.specs.declared.views.CoinView.{CoinView}
-use Rattle.plasma_tx.specs.Views.{coin_at}
-use Rattle.plasma_tx.specs.declared.opening.RawOpening.{RawOpening}
-use Rattle.sparse_merkle.specs.declared.tree.Entry.{Entry}
+use Rattle.world_laws.proofs.Basics.{◌≡◌, ℕ, Bool, true, false, if◌then◌else◌, List, Option, Some, Ok, Err, refl, sym, ap, ◌∙◌, subst, slice_get, arith, Result, false≢true, eq-eqb, eqb-true, common_steps, some_same}
+use Rattle.world_laws.proofs.CoinWords.{Bundle, bundle_text, RootCall, CoinView, coin_at, RawOpening, Entry}
+use Rattle.world_laws.proofs.NodeWords.{Reply, prove_cause, NodeOrder, OperatorOrder, answered, on_bundled, operator_does}
+use Rattle.world_laws.proofs.OperatorWords.{Place, present, as_bundle, bundle_to, bundle_of, bundle_answer, tip_asked}
+use Rattle.world_laws.proofs.WorldWords.{Line, Command, OperatorCommand, node_of, Other, Node, World, is_operator_role, order_of, event_of, LineEffect, without_offers, with_mail, IsCommandIn, NodePlace, Cut, Act, Rests, Orders, End, Whole, Crashed, Kept, Lost, is_down_for, order_act, act_of, end_of, end_effect, deed_at, done, line_effect, IsFound, understood-in}
 use Rattle.operator_rules.specs.declared.refusal.ProveRefusal.{ProveRefusal}
-use Rattle.operator_rules.specs.Walk.{Place, present}
-use Rattle.operator_rules.specs.Commands.{as_bundle, bundle_to, bundle_of, bundle_answer, tip_asked}
-use Rattle.node_replies.specs.declared.reply.Reply.{Reply}
-use Rattle.node_replies.specs.Causes.{prove_cause}
-use Rattle.world_rules.specs.Events.{Other}
-use Rattle.world_rules.specs.World.{Node, World, is_operator_role}
-use Rattle.node_replies.specs.declared.order.NodeOrder.{NodeOrder}
-use Rattle.node_replies.specs.declared.order.OperatorOrder.{OperatorOrder}
-use Rattle.node_replies.specs.Orders.{answered, on_bundled, operator_does}
-use Rattle.world_rules.specs.Orders.{order_of}
-use Rattle.world_rules.specs.OrderEvents.{event_of}
-use Rattle.world_rules.specs.Steps.{LineEffect, without_offers, with_mail}
-use Rattle.world_rules.specs.Laws.{IsCommandIn}
-use Rattle.world_rules.specs.Acts.{Place as NodePlace, Cut, Act, Rests, Orders, End, Whole, Crashed, Kept, Lost, is_down_for, order_act, act_of, end_of, end_effect, deed_at, done}
-use Rattle.world_rules.proofs.Lives.{line_effect}
-use Rattle.world_rules.proofs.Lookups.{IsFound, understood-in}
-use Rattle.world_laws.proofs.Lists.{some_same}
 
 -- ---- the bundle that is asked for
 

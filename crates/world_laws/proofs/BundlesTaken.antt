@@ -1,49 +1,10 @@
 -- A bundle that an operator made that keeps to the rules is taken by the wallet that it is for.
-use Rattle.std.proofs.Common.{◌≡◌, ℕ, zero, suc, ◌^◌, ◌<◌, ◌≤◌, ◌&&◌, not, true, false, if◌then◌else◌, List, [], ◌∷◌, ◌++◌, length, Some, None, Ok, refl, sym, ap, ◌∙◌, subst, slice_get, nat_lt, arith}
-use Rattle.std.specs.List.{list_any}
-use Rattle.std.proofs.lemmas.Bool.{or_parts, true≢false}
-use Rattle.std.proofs.lemmas.List.Folds.{list_any-append}
+use Rattle.world_laws.proofs.Basics.{◌≡◌, ℕ, zero, suc, ◌^◌, ◌<◌, ◌≤◌, ◌&&◌, not, true, false, if◌then◌else◌, List, [], ◌∷◌, ◌++◌, length, Some, None, Ok, refl, sym, ap, ◌∙◌, subst, slice_get, nat_lt, arith, list_any, or_parts, true≢false, list_any-append, some_same}
+use Rattle.world_laws.proofs.CoinWords.{Entry, leaf_of, tip_of, Owner, CoinView, RootCall, signed_in, blocks, coin_at, coin_at-le, bundle_text}
+use Rattle.world_laws.proofs.NodeWords.{kept_of, links_handed, most_note, Accepts, note_text, who_is_wallet, accept_effect, wallet_cause, NodeOrder, Reply, WalletOrder, answered, on_accepted, wallet_does}
+use Rattle.world_laws.proofs.OperatorWords.{notes_of, tree_at, Found, place_at, forest_in, bundle_of, bundle_answer}
+use Rattle.world_laws.proofs.WorldWords.{Line, Command, WalletCommand, OperatorCommand, Event, Joins, log_of, Node, World, is_wallet_role, number_of, owner_of_node, wallet_of, bytes_of, is_joined, order_of, LineEffect, TraceEntry, Run, step, events_of, run-kept, KeptWorld, Place, Act, Rests, Orders, order_act, act_of, done, understood, IsRun, is_barred, CommitsOnce, IsHonestSoFar, WasBundled, IsTakenBundle, HonestBundlesAreTaken, line_effect, stepped, OperatorIsFirst}
 use Rattle.line_forms.specs.declared.tokens.HexOrItem.{HexOrItem}
-use Rattle.sparse_merkle.specs.declared.tree.Entry.{Entry}
-use Rattle.sparse_merkle.specs.TreeDigest.{leaf_of}
-use Rattle.plasma_tx.specs.Links.{tip_of}
-use Rattle.plasma_tx.specs.declared.owner.Owner.{Owner}
-use Rattle.plasma_tx.specs.declared.views.CoinView.{CoinView}
-use Rattle.plasma_tx.specs.declared.call.RootCall.{RootCall}
-use Rattle.plasma_tx.specs.Spelling.{signed_in}
-use Rattle.plasma_tx.specs.Views.{blocks, coin_at}
-use Rattle.plasma_tx.proofs.Bounds.{coin_at-le}
-use Rattle.coin_history.specs.Bundles.{bundle_text}
-use Rattle.schedule_text.specs.declared.line.Line.{Line}
-use Rattle.schedule_text.specs.declared.command.Command.{Command}
-use Rattle.schedule_text.specs.declared.command.WalletCommand.{WalletCommand}
-use Rattle.schedule_text.specs.declared.command.OperatorCommand.{OperatorCommand}
-use Rattle.node_rules.specs.Kept.{kept_of, links_handed, most_note}
-use Rattle.node_rules.specs.WalletRecords.{Accepts, note_text, who_is as who_is_wallet}
-use Rattle.node_rules.specs.Wallet.{accept_effect}
-use Rattle.operator_rules.specs.Records.{notes_of}
-use Rattle.operator_rules.specs.Trees.{tree_at}
-use Rattle.operator_rules.specs.Walk.{Place as Found, place_at}
-use Rattle.operator_rules.specs.Commands.{forest_in, bundle_of, bundle_answer}
-use Rattle.node_replies.specs.Causes.{wallet_cause}
-use Rattle.world_rules.specs.Events.{Event, Joins, log_of}
-use Rattle.world_rules.specs.World.{Node, World, is_wallet_role, number_of, owner_of_node, wallet_of, bytes_of}
-use Rattle.world_rules.specs.Safety.{is_joined}
-use Rattle.node_replies.specs.declared.order.NodeOrder.{NodeOrder}
-use Rattle.node_replies.specs.declared.reply.Reply.{Reply}
-use Rattle.node_replies.specs.declared.order.WalletOrder.{WalletOrder}
-use Rattle.node_replies.specs.Orders.{answered, on_accepted, wallet_does}
-use Rattle.world_rules.specs.Orders.{order_of}
-use Rattle.world_rules.specs.Steps.{LineEffect, TraceEntry, Run, step, events_of}
-use Rattle.world_rules.proofs.KeptRun.{run-kept}
-use Rattle.world_rules.proofs.KeptWorld.{KeptWorld}
-use Rattle.world_rules.specs.Acts.{Place, Act, Rests, Orders, order_act, act_of, done}
-use Rattle.world_rules.proofs.Lookups.{understood}
-use Rattle.world_laws.specs.Headline.{IsRun}
-use Rattle.world_laws.specs.Bundles.{is_barred, CommitsOnce, IsHonestSoFar, WasBundled, IsTakenBundle, HonestBundlesAreTaken}
-use Rattle.world_laws.proofs.Lists.{some_same}
-use Rattle.world_rules.proofs.Lives.{line_effect, stepped}
-use Rattle.world_rules.proofs.Told.{OperatorIsFirst}
 use Rattle.world_laws.proofs.Acts.{first-alone}
 use Rattle.world_laws.proofs.Keeps.{own-tag, runs-keep}
 use Rattle.world_laws.proofs.SignedDeeds.{named-role}

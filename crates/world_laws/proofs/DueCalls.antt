@@ -1,28 +1,10 @@
 -- What is due for the exits of a coin that a node guards, and so is among the calls that it offers.
-use Rattle.std.proofs.Common.{◌≡◌, ℕ, ◌+◌, ◌<◌, ◌≤◌, ◌==◌, ◌&&◌, not, Bool, true, false, if◌then◌else◌, List, [], ◌∷◌, map, Option, Some, None, inl, inr, refl, sym, ap, ◌∙◌, subst, arith, filter, rules}
-use Rattle.std.specs.Prelude.{is_some, is_none, nat_lt, unwrap_or}
-use Rattle.std.specs.Option.{option_map, option_or}
-use Rattle.std.specs.List.{flat_map}
-use Rattle.std.proofs.lemmas.Bool.{eq-eqb, lt-ltb, le-ltb, lt-leb, and_from, not_from_false, false≢true}
-use Rattle.plasma_tx.specs.declared.owner.Owner.{Owner}
-use Rattle.plasma_tx.specs.declared.links.Link.{Link}
-use Rattle.plasma_tx.specs.declared.links.Links.{Links}
-use Rattle.plasma_tx.specs.declared.call.RootCall.{RootCall}
-use Rattle.plasma_tx.specs.declared.call.RootCall.TheVariants.{After, Between, Before, Respond}
+use Rattle.world_laws.proofs.Basics.{◌≡◌, ℕ, ◌+◌, ◌<◌, ◌≤◌, ◌==◌, ◌&&◌, not, Bool, true, false, if◌then◌else◌, List, [], ◌∷◌, map, Option, Some, None, inl, inr, refl, sym, ap, ◌∙◌, subst, arith, filter, rules, is_some, is_none, nat_lt, unwrap_or, option_map, option_or, flat_map, eq-eqb, lt-ltb, le-ltb, lt-leb, and_from, not_from_false, false≢true, has-in-flat_map, has-kept, none-any}
+use Rattle.world_laws.proofs.CoinWords.{Owner, Link, Links, RootCall, After, Between, Before, Respond, CoinView, tip_of, now, Challenge, Exit, exits, challenge_at, challenge_view, exit_view, exits_of, block_of, CHALLENGE_WINDOW, RESPONSE_WINDOW, Tests, Rules, link_after, tip_shown, within, answer, due_for, due_of, Has, any-map}
+use Rattle.world_laws.proofs.WorldWords.{Event, log_of, seen}
+use Rattle.world_laws.proofs.HeldCoins.{IsShownAt, IsGoodGuard}
 use Rattle.plasma_tx.specs.declared.views.ChallengeView.{ChallengeView}
-use Rattle.plasma_tx.specs.declared.views.CoinView.{CoinView}
 use Rattle.plasma_tx.specs.ChallengeLists.{is_challenged}
-use Rattle.plasma_tx.specs.Links.{tip_of}
-use Rattle.plasma_tx.specs.Views.{now, Challenge, Exit, exits, challenge_at, challenge_view, exit_view, exits_of, block_of}
-use Rattle.plasma_tx.specs.declared.rules.TheConstants.{CHALLENGE_WINDOW, RESPONSE_WINDOW}
-use Rattle.plasma_tx.specs.Shown.{Tests, Rules}
-use Rattle.watch_duty.specs.Duty.{link_after, tip_shown, within, answer, due_for, due_of}
-use Rattle.watch_duty.proofs.Members.{Has, any-map}
-use Rattle.world_rules.specs.Events.{Event, log_of}
-use Rattle.world_rules.specs.Exhibits.{seen}
-use Rattle.world_laws.proofs.Shown.{IsShownAt}
-use Rattle.world_laws.proofs.Held.{IsGoodGuard}
-use Rattle.world_laws.proofs.Lists.{has-in-flat_map, has-kept, none-any}
 
 -- ---- members
 

@@ -1,37 +1,10 @@
 -- A call that a watch offers is accepted at once, where there is money for a Before.
-use Rattle.std.proofs.Common.{◌≡◌, ℕ, true, false, if◌then◌else◌, List, [], ◌∷◌, ◌++◌, Option, Some, None, refl, sym, ap, ◌∙◌, subst, arith, rules}
-use Rattle.std.specs.Option.{option_map_or}
-use Rattle.std.proofs.lemmas.Grind.{common_steps}
-use Rattle.plasma_tx.specs.declared.opening.RawOpening.{RawOpening}
-use Rattle.plasma_tx.specs.declared.owner.Owner.{Owner}
-use Rattle.plasma_tx.specs.declared.links.Links.{Links}
-use Rattle.plasma_tx.specs.declared.call.RootCall.{RootCall}
-use Rattle.plasma_tx.specs.declared.views.CoinView.{CoinView}
-use Rattle.plasma_tx.specs.declared.views.ExitView.{ExitView}
-use Rattle.plasma_tx.specs.Views.{coin_at, exits_of}
-use Rattle.plasma_tx.specs.Shown.{Tests, Rules, tests_by, root_at}
-use Rattle.coin_history.specs.declared.bundle.Bundle.{Bundle}
-use Rattle.coin_history.specs.History.{committed_blocks, links_of, AreLinked, IsHistory}
-use Rattle.coin_history.proofs.HistoryLinks.{tip-is, tip_from, none-linked}
-use Rattle.node_rules.specs.Kept.{kept_links}
-use Rattle.node_rules.specs.Watcher.{due_for_kept}
-use Rattle.watch_duty.specs.Duty.{due_for, due_of}
-use Rattle.watch_duty.specs.Laws.{HaveOneLeaf, is_poor_before}
-use Rattle.watch_duty.proofs.Members.{Has, has-cases, has-contains, contains-has, has-flat_map}
-use Rattle.watch_duty.proofs.Dues.{IsDue as IsDueFor, due_for-due}
-use Rattle.watch_duty.proofs.Shown.{seen as log_seen}
+use Rattle.world_laws.proofs.Basics.{◌≡◌, ℕ, true, false, if◌then◌else◌, List, [], ◌∷◌, ◌++◌, Option, Some, None, refl, sym, ap, ◌∙◌, subst, arith, rules, option_map_or, common_steps}
+use Rattle.world_laws.proofs.CoinWords.{RawOpening, Owner, Links, RootCall, CoinView, ExitView, coin_at, exits_of, Tests, Rules, tests_by, root_at, Bundle, committed_blocks, links_of, AreLinked, IsHistory, tip-is, tip_from, none-linked, due_for, due_of, HaveOneLeaf, is_poor_before, Has, has-cases, has-contains, contains-has, has-flat_map, IsDueFor, due_for-due, log_seen}
+use Rattle.world_laws.proofs.NodeWords.{kept_links, due_for_kept}
+use Rattle.world_laws.proofs.WorldWords.{Event, Watches, log_of, coin_of_call, wallet_owner, accepted, guarded_by, is_command_of, offered, seen, collides, is_watch, is_joined, lacks_bond, fresh_offers, Taken, Bare, ShowsGuard, IsLegal, LegalDueCallsAreTaken}
+use Rattle.world_laws.proofs.HeldCoins.{HasOneLeaf, one_leaf, legal-log, log-seen, is_noted, IsKept, is_kept, kept-grow, deposited-coin}
 use Rattle.watch_duty.proofs.Accepts.{due_calls_are_accepted}
-use Rattle.world_rules.specs.Events.{Event, Watches, log_of, coin_of_call, wallet_owner, accepted, guarded_by, is_command_of, offered}
-use Rattle.world_rules.specs.Exhibits.{seen, collides}
-use Rattle.world_rules.specs.Safety.{is_watch, is_joined}
-use Rattle.world_laws.specs.Headline.{lacks_bond}
-use Rattle.world_laws.specs.LegalLaws.{fresh_offers}
-use Rattle.world_laws.specs.Legal.{Taken, Bare, ShowsGuard, IsLegal}
-use Rattle.world_laws.specs.LegalLaws.{LegalDueCallsAreTaken}
-use Rattle.world_laws.proofs.Clash.{HasOneLeaf, one_leaf}
-use Rattle.world_laws.proofs.Shown.{legal-log, log-seen}
-use Rattle.world_laws.proofs.Bound.{is_noted, IsKept, is_kept, kept-grow}
-use Rattle.world_laws.proofs.Held.{deposited-coin}
 use Rattle.world_laws.proofs.Nodes.{same-node}
 use Rattle.world_laws.proofs.Guards.{kept-some, due_of-coin}
 

@@ -1,23 +1,8 @@
 -- One step back along the log: where a standing exit and its open challenges come from, and that the clock doesn't go
 -- back.
-use Rattle.std.proofs.Common.{◌≡◌, ◌⊎◌, ℕ, ◌≤◌, ◌==◌, ◌&&◌, not, Bool, true, false, if◌then◌else◌, List, [], ◌∷◌, ◌++◌, Some, None, inl, inr, refl, sym, ap, ◌∙◌, subst, arith, rules}
-use Rattle.std.specs.Prelude.{is_some, is_none}
-use Rattle.std.proofs.Math.Nat.{le_refl}
-use Rattle.std.proofs.lemmas.Bool.{eqb-true, eq-eqb, and_parts, and_from, not-true, true≢false, false_from_ne_true}
-use Rattle.std.proofs.lemmas.Grind.{common_steps}
-use Rattle.plasma_tx.specs.declared.opening.RawOpening.{RawOpening}
-use Rattle.plasma_tx.specs.declared.call.Shown.{Shown}
-use Rattle.plasma_tx.specs.declared.call.RootCall.{RootCall}
-use Rattle.plasma_tx.specs.declared.call.RootCall.TheVariants.{Fund, Tick, Deposit, Commit, StartDeposit, StartSpend, After, Between, Before, Respond, Finish}
-use Rattle.plasma_tx.specs.Views.{now, block_of, Challenge, Exit, is_exit, exits, exit_at, without_exit, challenge_at, with_challenge, with_answer, new_challenge}
-use Rattle.plasma_tx.specs.Laws.{is_start, is_end, is_respond}
-use Rattle.plasma_tx.specs.Shown.{Tests, Rules}
-use Rattle.plasma_tx.specs.Table.{is_accepted, answer_to}
-use Rattle.plasma_tx.proofs.Accepted.{accepted_calls_show}
-use Rattle.plasma_tx.proofs.RuleNames.{exits-distinct}
-use Rattle.watch_duty.proofs.Members.{Has, has-cases, has-filter, has-map, only-found}
-use Rattle.world_laws.specs.Looked.{is_before}
-use Rattle.world_laws.proofs.Lists.{some_same, exit-named}
+use Rattle.world_laws.proofs.Basics.{◌≡◌, ◌⊎◌, ℕ, ◌≤◌, ◌==◌, ◌&&◌, not, Bool, true, false, if◌then◌else◌, List, [], ◌∷◌, ◌++◌, Some, None, inl, inr, refl, sym, ap, ◌∙◌, subst, arith, rules, is_some, is_none, le_refl, eqb-true, eq-eqb, and_parts, and_from, not-true, true≢false, false_from_ne_true, common_steps, some_same, exit-named}
+use Rattle.world_laws.proofs.CoinWords.{RawOpening, Shown, RootCall, Fund, Tick, Deposit, Commit, StartDeposit, StartSpend, After, Between, Before, Respond, Finish, now, block_of, Challenge, Exit, is_exit, exits, exit_at, without_exit, challenge_at, with_challenge, with_answer, new_challenge, is_start, is_end, is_respond, Tests, Rules, is_accepted, answer_to, accepted_calls_show, exits-distinct, Has, has-cases, has-filter, has-map, only-found}
+use Rattle.world_laws.proofs.WorldWords.{is_before}
 use Rattle.world_laws.proofs.Watched.{is_none-push, is_none-answered}
 
 -- ---- an exit
@@ -88,8 +73,7 @@ none-at n (first ∷ rest) ch none (inr h) same =
 
 is_none-new : (n : ℕ) (chs : List Challenge) (new : Challenge) → new.block ≡ n
     → is_none (challenge_at n (chs ++ new ∷ [])) ≡ false
-is_none-new n [] new same =
-    ap (λ (b : Bool). is_none (if b then Some new else None)) (eq-eqb new.block n same)
+is_none-new n [] new same = ap (λ (b : Bool). is_none (if b then Some new else None)) (eq-eqb new.block n same)
 is_none-new n (first ∷ rest) new same = grind (arith, common_steps, is_none-new n rest new same)
 
 -- ---- one call
@@ -192,13 +176,11 @@ module _ (tests : Tests) (rules : Rules) (log : List RootCall) where
   pub stood-before : (call : RootCall) → is_accepted (answer_to tests rules log call) ≡ true → (x : Exit)
       → Has (exits (call ∷ log)) x → IsNew log call x ⊎ StoodBefore log call x
   unfolding exits
-  stood-before (Fund account amount) is x h =
-      inr (still (Fund account amount) x h refl refl (λ n. refl) (λ n. refl))
+  stood-before (Fund account amount) is x h = inr (still (Fund account amount) x h refl refl (λ n. refl) (λ n. refl))
   stood-before (Tick time) is x h = inr (still (Tick time) x h refl refl (λ n. refl) (λ n. refl))
   stood-before (Deposit account amount key) is x h =
       inr (still (Deposit account amount key) x h refl refl (λ n. refl) (λ n. refl))
-  stood-before (Commit account root) is x h =
-      inr (still (Commit account root) x h refl refl (λ n. refl) (λ n. refl))
+  stood-before (Commit account root) is x h = inr (still (Commit account root) x h refl refl (λ n. refl) (λ n. refl))
   stood-before (StartDeposit account k block) is x h = grind (arith, has-cases, kept-other, still, and_from, eq-eqb)
   stood-before (StartSpend account k parent exit) is x h = grind (arith, has-cases, kept-other, still, and_from, eq-eqb)
   stood-before (After account k f spend) is x h =

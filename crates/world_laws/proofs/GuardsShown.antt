@@ -1,42 +1,18 @@
 -- What a watcher's records keep is shown by a bundle that events say it guards: one of the same coin and tip, with the
 -- same links.
-use Rattle.std.proofs.Common.{◌≡◌, ◌⊎◌, ℕ, not, Bool, true, false, if◌then◌else◌, ◌^◌, ◌<◌, List, [], ◌∷◌, filter, Option, Some, None, Ok, Err, inl, inr, refl, sym, ap, ◌∙◌, subst, lit<, arith}
-use Rattle.std.specs.Prelude.{Result, IfSome}
-use Rattle.std.specs.List.{list_any}
-use Rattle.std.proofs.lemmas.Bool.{false≢true}
-use Rattle.std.proofs.lemmas.Grind.{common_steps}
-use Rattle.node_journal.specs.Effect.{Effect, first_cause, unless, only}
-use Rattle.plasma_tx.specs.declared.links.Links.{Links}
-use Rattle.plasma_tx.specs.declared.call.RootCall.{RootCall}
-use Rattle.plasma_tx.specs.Links.{tip_of}
-use Rattle.coin_history.specs.declared.bundle.Bundle.{Bundle}
-use Rattle.coin_history.specs.declared.refusal.HistoryRefusal.{HistoryRefusal}
-use Rattle.coin_history.specs.History.{links_in}
-use Rattle.node_rules.specs.declared.answers.Accepted.{Accepted}
+use Rattle.world_laws.proofs.Basics.{◌≡◌, ◌⊎◌, ℕ, not, Bool, true, false, if◌then◌else◌, ◌^◌, ◌<◌, List, [], ◌∷◌, filter, Option, Some, None, Ok, Err, inl, inr, refl, sym, ap, ◌∙◌, subst, lit<, arith, Result, IfSome, list_any, false≢true, common_steps, has-kept}
+use Rattle.world_laws.proofs.CoinWords.{Links, RootCall, tip_of, Bundle, HistoryRefusal, links_in, Has, has-cases, has-filter}
+use Rattle.world_laws.proofs.NodeWords.{Effect, first_cause, only, Accepted, chain_of, kept_of, links_handed, IsReadBack, Guarded, Released, who_is, is_of, with_guard, guards_of, guards_in, guard_causes, guard_by, guard_effect, release_effect, AddsGuard, NodeOrder, with_record, on_guarded, on_released, watcher_does, Small, small-nil}
+use Rattle.world_laws.proofs.WorldWords.{Event, Guards, Releases, is_bundle, Node, World, is_watcher_role, node_does, bundle_read, event_of, watcher_told, Deed, as_deed, Said, told, IsFitOrder, watcher-alone, has_order}
+use Rattle.node_journal.specs.Effect.{unless}
 use Rattle.node_rules.specs.declared.refusal.WatcherRefusal.{WatcherRefusal}
 use Rattle.node_rules.specs.declared.refusal.WatcherRefusal.TheVariants.{NoGuard}
-use Rattle.node_rules.specs.Kept.{chain_of, kept_of, links_handed}
-use Rattle.node_rules.specs.Laws.{IsReadBack}
-use Rattle.node_rules.specs.Watcher.{Guarded, Released, note_text, who_is, is_of, with_guard, guards_of, guards_in, guard_causes, guard_by, guard_effect, release_effect}
-use Rattle.node_rules.specs.WatcherLaws.{AddsNote, AddsGuard}
+use Rattle.node_rules.specs.Watcher.{note_text}
+use Rattle.node_rules.specs.WatcherLaws.{AddsNote}
 use Rattle.node_rules.proofs.WatcherRole.{commands_add_their_notes}
-use Rattle.watch_duty.proofs.Members.{Has, has-cases, has-filter}
-use Rattle.world_rules.specs.Events.{Event, Guards, Releases, is_bundle}
-use Rattle.world_rules.specs.World.{Node, World, is_watcher_role}
-use Rattle.node_replies.specs.declared.order.NodeOrder.{NodeOrder}
 use Rattle.node_replies.specs.declared.order.WatcherOrder.{WatcherOrder}
-use Rattle.node_replies.specs.Orders.{with_record, on_guarded, on_released, watcher_does}
-use Rattle.world_rules.specs.Orders.{node_does}
-use Rattle.world_rules.specs.OrderEvents.{bundle_read, event_of}
-use Rattle.world_rules.proofs.OrderEnds.{watcher_told}
-use Rattle.world_rules.specs.Deeds.{Deed, as_deed}
-use Rattle.node_replies.proofs.ByteTexts.{Small, small-nil}
-use Rattle.world_rules.proofs.Said.{Said, told}
 use Rattle.world_rules.proofs.KeptWatcher.{KeptWatcher}
-use Rattle.world_rules.proofs.KeptNode.{IsFitOrder, watcher-alone}
-use Rattle.world_rules.specs.Evidence.{has_order}
 use Rattle.world_laws.proofs.Handed.{handed-history}
-use Rattle.world_laws.proofs.Lists.{has-kept}
 
 -- a bundle shows a kept coin: it is of the coin and the tip, and has the links
 pub record IsShown (tag : List ℕ) (bundles : List Bundle) (kept : Bundle) : Type 0 where
@@ -114,13 +90,11 @@ module _ (dig : List ℕ → List ℕ) (tag : List ℕ) (s : Said) (log : List R
             subst (IsShown tag (bundle_read bytes ∷ s.guarded)) same
             (subst (λ t. IsShown t (bundle_read bytes ∷ s.guarded) (kept_of links)) tag_is
             (handed-shown dig (who_is records).tag log bytes links s.guarded handed back))
-        | inr old ↦
-            shown-more tag (bundle_read bytes) s.guarded (guards_in dig records) shown other old
+        | inr old ↦ shown-more tag (bundle_read bytes) s.guarded (guards_in dig records) shown other old
       ]
 
   abbrev IsGuarded : ℕ → List ℕ → Effect (Result Accepted WatcherRefusal) → Type 0
-  IsGuarded n bytes effect =
-      IsAfter (watcher_told n (WatcherOrder.Guard bytes) on_guarded effect.answer) effect.note
+  IsGuarded n bytes effect = IsAfter (watcher_told n (WatcherOrder.Guard bytes) on_guarded effect.answer) effect.note
 
   pub guard-shown : (n : ℕ) (bytes : List ℕ) → Small bytes → IsGuarded n bytes (guard_effect dig records log bytes)
   unfolding guard_effect event_of
@@ -154,8 +128,7 @@ module _ (dig : List ℕ → List ℕ) (tag : List ℕ) (s : Said) (log : List R
       (sym adds.1) (shown-released tag c e s.guarded (guards_in dig records) shown)
 
   abbrev IsReleased : ℕ → ℕ → ℕ → Effect (Result (Unit {0}) WatcherRefusal) → Type 0
-  IsReleased n c e effect =
-      IsAfter (watcher_told n (WatcherOrder.Release c e) on_released effect.answer) effect.note
+  IsReleased n c e effect = IsAfter (watcher_told n (WatcherOrder.Release c e) on_released effect.answer) effect.note
 
   pub release-shown : (n c e : ℕ) → c < 2 ^ 64 → e < 2 ^ 64 → IsReleased n c e (release_effect dig records c e)
   unfolding release_effect event_of

@@ -1,36 +1,10 @@
 -- No event harms a held coin.
-use Rattle.std.proofs.Common.{◌≡◌, ℕ, ◌+◌, ◌≤◌, ◌==◌, ◌&&◌, not, Bool, true, false, List, [], ◌∷◌, Option, Some, None, inl, refl, sym, ◌∙◌, subst, arith, rules}
-use Rattle.std.specs.Prelude.{is_none, nat_lt, nat_le}
-use Rattle.std.specs.List.{AllByRecursion, list_all}
-use Rattle.std.proofs.lemmas.Bool.{cases_Bool, eqb-true, le-ltb, ltb-false, leb-true, and_parts, and_from, not-true, not_from_false, true≢false, false_from_ne_true}
-use Rattle.std.proofs.lemmas.Grind.{common_steps}
-use Rattle.plasma_tx.specs.declared.opening.RawOpening.{RawOpening}
-use Rattle.plasma_tx.specs.declared.call.RootCall.{RootCall}
-use Rattle.plasma_tx.specs.declared.call.RootCall.TheVariants.{After, Between, Finish}
-use Rattle.plasma_tx.specs.declared.answer.Answer.{Answer}
-use Rattle.plasma_tx.specs.Views.{now, Challenge, Exit, exits, exit_at, challenge_at, is_withdrawn}
-use Rattle.plasma_tx.specs.declared.rules.TheConstants.{EXIT_PERIOD}
-use Rattle.plasma_tx.specs.Shown.{Tests, Rules}
-use Rattle.plasma_tx.specs.Table.{decided, finish_causes, finish_effect, is_payable, where_exit, answer_to, is_accepted}
-use Rattle.plasma_tx.specs.Accepted.{CancelsAfter, CancelsBetween}
-use Rattle.plasma_tx.specs.RuleLaws.{is_paid}
-use Rattle.plasma_tx.proofs.Accepted.{accepted_calls_show}
-use Rattle.watch_duty.specs.Laws.{openings_of_call}
-use Rattle.watch_duty.proofs.Members.{Has, all-has}
-use Rattle.world_rules.specs.Events.{Event, log_of, wallet_owner, bound_by}
-use Rattle.world_rules.specs.Exhibits.{seen, forges_one}
-use Rattle.world_rules.specs.Safety.{is_mine, is_own, finish_harms, call_harms}
-use Rattle.world_laws.specs.Legal.{IsLegal}
-use Rattle.world_laws.proofs.Lists.{all-from, found-has, challenge-has, all_answered-from, passes-has}
-use Rattle.world_laws.proofs.Walk.{Spent, walk-order}
-use Rattle.world_laws.proofs.Histories.{place_of}
-use Rattle.world_laws.proofs.Shown.{Deposited, Transferred, IsBegun, OfDeposit, OfSpend}
-use Rattle.world_laws.proofs.Bound.{SignsBy}
-use Rattle.world_laws.proofs.Held.{Known, shown-ge, link_in}
-use Rattle.world_laws.specs.Invariant.{IsWatched, IfOf, AllWatched}
+use Rattle.world_laws.proofs.Basics.{◌≡◌, ℕ, ◌+◌, ◌≤◌, ◌==◌, ◌&&◌, not, Bool, true, false, List, [], ◌∷◌, Option, Some, None, inl, refl, sym, ◌∙◌, subst, arith, rules, is_none, nat_lt, nat_le, AllByRecursion, list_all, cases_Bool, eqb-true, le-ltb, ltb-false, leb-true, and_parts, and_from, not-true, not_from_false, true≢false, false_from_ne_true, common_steps, all-from, found-has, challenge-has, all_answered-from, passes-has}
+use Rattle.world_laws.proofs.CoinWords.{RawOpening, RootCall, After, Between, Finish, Answer, now, Challenge, Exit, exits, exit_at, challenge_at, is_withdrawn, EXIT_PERIOD, Tests, Rules, decided, finish_causes, finish_effect, is_payable, where_exit, answer_to, is_accepted, CancelsAfter, CancelsBetween, is_paid, accepted_calls_show, openings_of_call, Has, all-has, Owner}
+use Rattle.world_laws.proofs.WorldWords.{Event, log_of, wallet_owner, bound_by, seen, forges_one, is_mine, is_own, finish_harms, call_harms, IsLegal, IsWatched, IfOf, AllWatched}
+use Rattle.world_laws.proofs.HeldCoins.{Spent, walk-order, place_of, Deposited, Transferred, IsBegun, OfDeposit, OfSpend, SignsBy, Known, shown-ge, link_in}
 use Rattle.world_laws.proofs.Watched.{IsSpend, is_spend, AtEvent, tip_unspent}
 use Rattle.world_laws.proofs.Steps.{OfHeld, of_held, owner-before, own-openings}
-use Rattle.plasma_tx.specs.declared.owner.Owner.{Owner}
 
 -- the answer to a Finish of what was found
 abbrev pub finish_answer : List RootCall → ℕ → Option Exit → Answer

@@ -1,26 +1,7 @@
 -- What the histories of a coin have in common, and what the holder's shows.
-use Rattle.std.proofs.Common.{◌≡◌, ◌⊎◌, ℕ, ◌<◌, ◌≤◌, true, false, List, [], Option, Some, None, inl, inr, refl, sym, ap, ◌∙◌, subst, arith, rules}
-use Rattle.std.specs.Prelude.{is_some}
-use Rattle.std.specs.List.{list_any}
-use Rattle.std.proofs.lemmas.Bool.{cases_lt, eqb-true, and_parts, or_cases, false≢true}
-use Rattle.std.proofs.lemmas.Grind.{common_steps}
-use Rattle.plasma_tx.specs.declared.owner.Owner.{Owner}
-use Rattle.plasma_tx.specs.declared.opening.RawOpening.{RawOpening}
-use Rattle.plasma_tx.specs.declared.links.Links.{Links}
-use Rattle.plasma_tx.specs.declared.call.RootCall.{RootCall}
-use Rattle.plasma_tx.specs.declared.views.CoinView.{CoinView}
-use Rattle.plasma_tx.specs.Links.{tip_of, last_owner_of}
-use Rattle.plasma_tx.specs.Views.{coin_at}
-use Rattle.plasma_tx.specs.Shown.{Tests, Rules, root_at}
-use Rattle.coin_history.specs.declared.bundle.Bundle.{Bundle}
-use Rattle.coin_history.specs.History.{transfer_of, links_in, IsHistory}
-use Rattle.watch_duty.specs.Duty.{next_link, link_after}
-use Rattle.watch_duty.proofs.Members.{Has}
-use Rattle.world_rules.specs.Events.{Event, log_of, accepted, bound_by, signed_away_by, is_bundle}
-use Rattle.world_rules.specs.Exhibits.{seen, is_forged}
-use Rattle.world_rules.specs.Safety.{was_deposited}
-use Rattle.world_laws.specs.Legal.{is_tip, IsLegal}
-use Rattle.world_laws.proofs.Lists.{some_same, any-some}
+use Rattle.world_laws.proofs.Basics.{◌≡◌, ◌⊎◌, ℕ, ◌<◌, ◌≤◌, true, false, List, [], Option, Some, None, inl, inr, refl, sym, ap, ◌∙◌, subst, arith, rules, is_some, list_any, cases_lt, eqb-true, and_parts, or_cases, false≢true, common_steps, some_same, any-some}
+use Rattle.world_laws.proofs.CoinWords.{Owner, RawOpening, Links, RootCall, CoinView, tip_of, last_owner_of, coin_at, Tests, Rules, root_at, Bundle, transfer_of, links_in, IsHistory, next_link, link_after, Has}
+use Rattle.world_laws.proofs.WorldWords.{Event, log_of, accepted, bound_by, signed_away_by, is_bundle, seen, is_forged, was_deposited, is_tip, IsLegal}
 use Rattle.world_laws.proofs.Clash.{IsOpened, HasOneLeaf, one_tx}
 use Rattle.world_laws.proofs.Walk.{Place, Spent, Successor, IsWalk, walk-passes, walk-above, walk-covers, walk-opened, walk-end, walk-spends_last, walk-spends, next-last, next-link, next-tip}
 use Rattle.world_laws.proofs.Histories.{place_of, history-walk}
@@ -173,8 +154,7 @@ pub held_at : (tests : Tests) (rules : Rules) (events : List Event) (w c e : ℕ
     → (h : Holding events w c e) → HeldAt tests rules events w c e h.me
 held_at tests rules events w c e legal h =
     elim h.source [
-      | inl deposited ↦
-          grind (arith, deposited-coin, empty-walk)
+      | inl deposited ↦ grind (arith, deposited-coin, empty-walk)
       | inr accepted_is ↦
           let r = any-some (is_bundle c e) (accepted events w) accepted_is in
           let n = is_noted tests rules events w r.0 legal r.1 in
@@ -233,6 +213,5 @@ module _ (tests : Tests) (rules : Rules) (signs : SignsBy tests) (events : List 
             let up = walk-passes tests rules (log_of events) c held.made.deposit (place_of held.made) held.openings
             (record { block = e; owner = h.me }) held.known.walk in
             omega (arith, up, d.2, ap (λ (m : CoinView). m.deposit) same)
-        | inr accepted_is ↦
-            grind (arith, any-some, bundle-is, no_later)
+        | inr accepted_is ↦ grind (arith, any-some, bundle-is, no_later)
       ]

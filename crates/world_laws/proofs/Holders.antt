@@ -1,17 +1,8 @@
 -- The accounts of wallets by their nodes' numbers: no two wallets have one, and every account that deposits or starts
 -- is a wallet's or that of a `call` line.
-use Rattle.std.proofs.Common.{◌≡◌, ◌⊎◌, ℕ, zero, suc, ◌==◌, ◌||◌, Bool, true, false, if◌then◌else◌, List, [], ◌∷◌, ◌++◌, length, map, Option, Some, None, inl, inr, refl, sym, ap, ◌∙◌, set, slice_get, arith}
-use Rattle.std.specs.List.{list_any}
-use Rattle.std.proofs.Common.{filter, cond}
-use Rattle.std.proofs.lemmas.Bool.{cases_eq, eq-eqb, or_left, or_right}
-use Rattle.std.proofs.lemmas.Grind.{common_steps}
-use Rattle.plasma_tx.specs.declared.call.RootCall.{RootCall}
-use Rattle.watch_duty.proofs.Members.{Has}
-use Rattle.world_rules.specs.World.{Node, World, is_wallet_role}
-use Rattle.world_rules.specs.Declarations.{is_wallet_account}
-use Rattle.world_rules.proofs.Runs.{push-same, push-other}
-use Rattle.world_laws.specs.Legal.{starts_by, deposits_by}
-use Rattle.world_laws.proofs.Lists.{some_same}
+use Rattle.world_laws.proofs.Basics.{◌≡◌, ◌⊎◌, ℕ, zero, suc, ◌==◌, ◌||◌, Bool, true, false, if◌then◌else◌, List, [], ◌∷◌, ◌++◌, length, map, Option, Some, None, inl, inr, refl, sym, ap, ◌∙◌, set, slice_get, arith, list_any, filter, cond, cases_eq, eq-eqb, or_left, or_right, common_steps, some_same}
+use Rattle.world_laws.proofs.CoinWords.{RootCall, Has}
+use Rattle.world_laws.proofs.WorldWords.{Node, World, is_wallet_role, is_wallet_account, push-same, push-other, starts_by, deposits_by}
 use Rattle.std.proofs.lemmas.Map.Keys.{any_passes_from_place}
 
 -- the account of a wallet's node
@@ -129,12 +120,10 @@ accounts-push held new callers log other kept = record {
     distinct n m account one two = elim (cases_eq (length held) n) [
       | inl n_last ↦ elim (cases_eq (length held) m) [
         | inl m_last ↦ sym n_last ∙ m_last
-        | inr m_old ↦
-            absurd (other account (last n account n_last one) (m, sym (push-other held new m m_old) ∙ two))
+        | inr m_old ↦ absurd (other account (last n account n_last one) (m, sym (push-other held new m m_old) ∙ two))
       ]
       | inr n_old ↦ elim (cases_eq (length held) m) [
-        | inl m_last ↦
-            absurd (other account (last m account m_last two) (n, sym (push-other held new n n_old) ∙ one))
+        | inl m_last ↦ absurd (other account (last m account m_last two) (n, sym (push-other held new n n_old) ∙ one))
         | inr m_old ↦
             kept.distinct n m account (sym (push-other held new n n_old) ∙ one)
             (sym (push-other held new m m_old) ∙ two)

@@ -1,56 +1,11 @@
 -- What a wallet's accepts, sends and reclaims are: each is legal after the events that say what its records are.
-use Rattle.std.proofs.Common.{◌≡◌, ℕ, zero, suc, ◌^◌, ◌<◌, ◌≤◌, ◌==◌, ◌&&◌, not, Bool, true, false, if◌then◌else◌, List, [], ◌∷◌, ◌++◌, length, map, Option, Some, None, Ok, inl, inr, refl, sym, ap, ◌∙◌, subst, slice_get, arith}
-use Rattle.std.specs.Prelude.{Result, IfSome, reverse, unwrap_or}
-use Rattle.std.specs.List.{list_any}
-use Rattle.std.specs.Option.{option_map_or}
-use Rattle.std.specs.Result.{result_ok}
-use Rattle.std.proofs.lemmas.Bool.{cases_eq, eqb-true, eq-eqb, ne_eqb, and_parts, not-true, not-false, ltb-false, false_from_ne_true, false≢true, true≢false}
-use Rattle.std.proofs.lemmas.List.{reverse-append, length-reverse}
-use Rattle.std.proofs.lemmas.Grind.{common_steps}
-use Rattle.lms_sign.specs.Tree.{signature_of}
-use Rattle.node_journal.specs.Effect.{first_cause}
-use Rattle.plasma_tx.specs.declared.owner.Owner.{Owner}
-use Rattle.plasma_tx.specs.declared.body.Body.{Body}
-use Rattle.plasma_tx.specs.declared.links.Links.{Links}
-use Rattle.plasma_tx.specs.declared.call.RootCall.{RootCall}
-use Rattle.plasma_tx.specs.declared.views.ExitView.{ExitView}
-use Rattle.plasma_tx.specs.Links.{last_owner_of}
-use Rattle.plasma_tx.specs.Spelling.{IsOwner, IsBody, body_text, body_at_start}
-use Rattle.plasma_tx.specs.Views.{blocks, exits_of, is_withdrawn}
-use Rattle.plasma_tx.specs.Shown.{Rules, tests_by}
-use Rattle.coin_history.specs.declared.bundle.Bundle.{Bundle}
-use Rattle.coin_history.specs.Bundles.{bundle_in}
-use Rattle.coin_history.specs.Checking.{absence_of}
-use Rattle.coin_history.specs.History.{IsHistory, IsAbsent}
+use Rattle.world_laws.proofs.Basics.{◌≡◌, ℕ, zero, suc, ◌^◌, ◌<◌, ◌≤◌, ◌==◌, ◌&&◌, not, Bool, true, false, if◌then◌else◌, List, [], ◌∷◌, ◌++◌, length, map, Option, Some, None, Ok, inl, inr, refl, sym, ap, ◌∙◌, subst, slice_get, arith, Result, IfSome, reverse, unwrap_or, list_any, option_map_or, result_ok, cases_eq, eqb-true, eq-eqb, ne_eqb, and_parts, not-true, not-false, ltb-false, false_from_ne_true, false≢true, true≢false, reverse-append, length-reverse, common_steps, some_same, none_some}
+use Rattle.world_laws.proofs.CoinWords.{signature_of, Owner, Body, Links, RootCall, ExitView, last_owner_of, IsOwner, IsBody, body_text, body_at_start, blocks, exits_of, is_withdrawn, Rules, tests_by, Bundle, bundle_in, absence_of, IsHistory, IsAbsent, LeafRecord, Sending, Held, is_noted, is_owner, spends_tip, sends_by, held_is, sending_is, kept_coins_are_held}
+use Rattle.world_laws.proofs.NodeWords.{first_cause, Accepted, Sent, WalletRefusal, links_handed, first_block, owner_of, notes_of, secret_of, leaves_in, sent_body, WalletRecords, WalletEffect, unless, who, noted, used, coin_state, standing_causes, accept_causes, accept_effect, sent_by, send_effect, last_of, reclaim_from, reclaim_effect, wallet-parts, tag-long, tip-fits, held-tip, SendEnds, Refused, Sends, send_ends}
+use Rattle.world_laws.proofs.WorldWords.{Event, log_of, wallet_owner, accepted, bound_by, leaf_at, signed_away_by, is_sent_from, bundle_read, holds_with, holds, AreKept, said, are_kept, KeptWallet, state-me, body-signed, words, push-same, push-other, left_by, is_left, LegalAccept, LegalBinding, LegalReclaim}
+use Rattle.world_laws.proofs.HeldCoins.{owner-is}
 use Rattle.coin_history.proofs.HistoryAbsent.{absences_are_found}
-use Rattle.wallet_core.specs.declared.notes.LeafRecord.{LeafRecord}
-use Rattle.wallet_core.specs.declared.coin_state.CoinState.TheVariants.{Sending, Held}
-use Rattle.wallet_core.specs.State.{is_noted, is_owner, spends_tip, sends_by}
-use Rattle.wallet_core.proofs.StateLaws.{held_is, sending_is, kept_coins_are_held}
-use Rattle.node_rules.specs.declared.answers.Accepted.{Accepted}
-use Rattle.node_rules.specs.declared.answers.Sent.{Sent}
 use Rattle.node_rules.specs.declared.answers.Reclaimed.{Reclaimed}
-use Rattle.node_rules.specs.declared.refusal.WalletRefusal.{WalletRefusal}
-use Rattle.node_rules.specs.Kept.{links_handed, first_block}
-use Rattle.node_rules.specs.WalletRecords.{owner_of, notes_of, secret_of, leaves_in}
-use Rattle.node_rules.specs.WalletCommandLaws.{sent_body}
-use Rattle.node_rules.specs.Wallet.{WalletRecords, WalletEffect, unless, who, noted, used, coin_state, standing_causes, accept_causes, accept_effect, sent_by, send_effect, last_of, reclaim_from, reclaim_effect}
-use Rattle.node_rules.proofs.WalletGrow.{wallet-parts}
-use Rattle.node_rules.proofs.WalletTips.{tag-long, tip-fits}
-use Rattle.node_rules.proofs.WalletRole.{held-tip}
-use Rattle.world_rules.specs.Events.{Event, log_of, wallet_owner, accepted, bound_by, leaf_at, signed_away_by, is_sent_from}
-use Rattle.world_rules.specs.OrderEvents.{bundle_read}
-use Rattle.world_rules.specs.Safety.{holds_with, holds}
-use Rattle.world_rules.specs.Laws.{AreKept}
-use Rattle.world_rules.proofs.Said.{said}
-use Rattle.world_rules.proofs.HeldSame.{are_kept}
-use Rattle.world_rules.proofs.KeptWallet.{KeptWallet, state-me}
-use Rattle.node_replies.proofs.WalletEnds.{SendEnds, Refused, Sends, send_ends}
-use Rattle.world_rules.proofs.WalletSends.{body-signed, words}
-use Rattle.world_rules.proofs.Runs.{push-same, push-other}
-use Rattle.world_laws.specs.Legal.{left_by, is_left, LegalAccept, LegalBinding, LegalReclaim}
-use Rattle.world_laws.proofs.Lists.{some_same, none_some}
-use Rattle.world_laws.proofs.Bound.{owner-is}
 use Rattle.world_laws.proofs.Handed.{read-rising, handed-history}
 use Rattle.world_laws.proofs.AcceptsShown.{node_with}
 

@@ -1,38 +1,13 @@
 -- What a wallet's leave and its watch offer is legal: the start of the exit of a coin at its top, and what is due for
 -- the coins that it holds there.
-use Rattle.std.proofs.Common.{◌≡◌, ◌≢◌, ℕ, zero, suc, ◌+◌, ◌<◌, ◌≤◌, List, [], Option, Some, None, Ok, Err, inl, inr, sym, ap, ◌∙◌, subst, arith, rules}
-use Rattle.std.specs.Prelude.{Result}
-use Rattle.std.specs.List.{Contains, range_with_len}
-use Rattle.std.specs.Option.{option_map_or}
-use Rattle.std.proofs.lemmas.Bool.{cases_eq}
-use Rattle.std.proofs.lemmas.Grind.{common_steps}
-use Rattle.plasma_tx.specs.declared.owner.Owner.{Owner}
-use Rattle.plasma_tx.specs.declared.links.Links.{Links}
-use Rattle.plasma_tx.specs.declared.call.RootCall.{RootCall}
-use Rattle.plasma_tx.specs.Views.{coins, coin_at}
-use Rattle.coin_history.specs.declared.bundle.Bundle.{Bundle}
-use Rattle.plasma_tx.specs.Shown.{Rules}
-use Rattle.plasma_tx.proofs.Bounds.{coin_at-le}
-use Rattle.watch_duty.specs.Duty.{due_of}
-use Rattle.node_rules.specs.declared.refusal.WalletRefusal.{WalletRefusal}
+use Rattle.world_laws.proofs.Basics.{◌≡◌, ◌≢◌, ℕ, zero, suc, ◌+◌, ◌<◌, ◌≤◌, List, [], Option, Some, None, Ok, Err, inl, inr, sym, ap, ◌∙◌, subst, arith, rules, Result, Contains, range_with_len, option_map_or, cases_eq, common_steps, has-in-flat_map}
+use Rattle.world_laws.proofs.CoinWords.{Owner, Links, RootCall, coins, coin_at, Bundle, Rules, coin_at-le, due_of, IsTip, Has, has-contains, contains-has, has-flat_map}
+use Rattle.world_laws.proofs.NodeWords.{WalletRefusal, kept_links, due_for_kept, owner_of, WalletRecords, who, noted, coin_state, kept_at, links_at, start_of, exit_start, leave_effect, due_at, due_in, watch_answer, links-some}
+use Rattle.world_laws.proofs.WorldWords.{Event, log_of, wallet_owner, accepted, said, KeptWallet, are_kept, IsAtTop, IsGuarding, ShowsGuard, ShowsTip, LegalWatch, LegalLeave, coin_at-positive}
 use Rattle.node_rules.specs.declared.refusal.WalletRefusal.TheVariants.{NotHeld}
-use Rattle.node_rules.specs.Kept.{kept_links}
-use Rattle.node_rules.specs.Watcher.{due_for_kept}
-use Rattle.node_rules.specs.WalletRecords.{owner_of}
-use Rattle.wallet_core.specs.Laws.{IsTip}
-use Rattle.node_rules.specs.Wallet.{WalletRecords, who, noted, coin_state, kept_at, links_at, start_of, exit_start, leave_effect, due_at, due_in, watch_answer}
-use Rattle.node_rules.proofs.WalletRole.{links-some}
-use Rattle.watch_duty.proofs.Members.{Has, has-contains, contains-has, has-flat_map}
-use Rattle.world_rules.specs.Events.{Event, log_of, wallet_owner, accepted}
-use Rattle.world_rules.proofs.Said.{said}
-use Rattle.world_rules.proofs.KeptWallet.{KeptWallet}
-use Rattle.world_rules.proofs.HeldSame.{are_kept}
-use Rattle.world_laws.specs.Legal.{IsAtTop, IsGuarding, ShowsGuard, ShowsTip, LegalWatch, LegalLeave}
 use Rattle.world_laws.proofs.GuardsShown.{AreShown}
 use Rattle.world_laws.proofs.AcceptsShown.{node_with, accepted_in}
 use Rattle.world_laws.proofs.AtTops.{IsShownAt, IsHeldAt, held-at-tip, top-held, held-top, shown-at}
-use Rattle.world_laws.proofs.Lists.{has-in-flat_map}
-use Rattle.world_rules.proofs.VerdictLaws.{coin_at-positive}
 
 -- ---- the coins of a log
 
@@ -81,8 +56,7 @@ module _ (dig : List ℕ → List ℕ) (rules : Rules) (events : List Event) (lo
 
   -- what shows a coin that the wallet holds or leaves with
   shown : (c e : ℕ) → IsHeld c e → IsShownAt dig events tag n wallet c e
-  shown c e held =
-      shown-at dig events tag log log_is n wallet own accepts c e (held-tip-is c e held)
+  shown c e held = shown-at dig events tag log log_is n wallet own accepts c e (held-tip-is c e held)
 
   -- its links are those of what the wallet keeps
   links-shown : (c e : ℕ) (by : IsShownAt dig events tag n wallet c e)

@@ -1,20 +1,9 @@
 -- What a watcher's watch offers is legal: it is what is due for the coins that it guards.
-use Rattle.std.proofs.Common.{◌≡◌, ℕ, true, List, slice_get, Option, Some, None, refl, sym, ap, ◌∙◌, subst, arith}
-use Rattle.std.specs.List.{Contains, list_any, flat_map}
-use Rattle.std.proofs.lemmas.Bool.{and_parts, eqb-true}
-use Rattle.std.proofs.lemmas.Grind.{common_steps}
-use Rattle.plasma_tx.specs.declared.owner.Owner.{Owner}
-use Rattle.plasma_tx.specs.declared.call.RootCall.{RootCall}
-use Rattle.plasma_tx.specs.Shown.{Rules, rules_of}
-use Rattle.coin_history.specs.declared.bundle.Bundle.{Bundle}
-use Rattle.node_rules.specs.Watcher.{who_is, is_of, guards_in, due_for_kept, watch_answer}
-use Rattle.watch_duty.proofs.Members.{Has, has-contains, contains-has, has-flat_map}
-use Rattle.world_rules.specs.Events.{Event, log_of, wallet_owner, is_bundle, guarded_by}
-use Rattle.world_rules.specs.World.{Node, World, is_watcher_role}
-use Rattle.world_rules.proofs.Said.{said}
-use Rattle.world_rules.proofs.KeptWorld.{KeptWorld}
-use Rattle.world_laws.specs.Legal.{IsGuarding, ShowsGuard, LegalWatch}
-use Rattle.world_laws.proofs.Lists.{any-some, has-in-flat_map}
+use Rattle.world_laws.proofs.Basics.{◌≡◌, ℕ, true, List, slice_get, Option, Some, None, refl, sym, ap, ◌∙◌, subst, arith, Contains, list_any, flat_map, and_parts, eqb-true, common_steps, any-some, has-in-flat_map}
+use Rattle.world_laws.proofs.CoinWords.{Owner, RootCall, Rules, rules_of, Bundle, Has, has-contains, contains-has, has-flat_map}
+use Rattle.world_laws.proofs.NodeWords.{who_is, is_of, guards_in, due_for_kept}
+use Rattle.world_laws.proofs.WorldWords.{Event, log_of, wallet_owner, is_bundle, guarded_by, Node, World, is_watcher_role, said, KeptWorld, IsGuarding, ShowsGuard, LegalWatch}
+use Rattle.node_rules.specs.Watcher.{watch_answer}
 use Rattle.world_laws.proofs.Keeps.{Keeps, is-watcher, watcher-tag}
 use Rattle.world_laws.proofs.GuardsShown.{IsShown, AreShown}
 use Rattle.world_laws.proofs.NodeNotes.{AreNoted, noted-at}

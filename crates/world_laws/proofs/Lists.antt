@@ -1,13 +1,10 @@
 -- Lists: what is in one, what holds of each, and finding.
+use Rattle.world_laws.proofs.CoinWords.{RootCall, Challenge, Exit, is_exit, with_exit_changed, with_answer_at, challenge_at, exits, exit_at, exits-distinct, Has, any-has, only-found, has-left, has-right}
 use Rattle.std.proofs.Common.{◌≡◌, ◌⊎◌, ℕ, zero, suc, ◌||◌, ◌==◌, ◌&&◌, not, Bool, true, false, if◌then◌else◌, List, [], ◌∷◌, ◌++◌, map, Some, None, inl, inr, refl, sym, ap, ◌∙◌, subst, find, arith, filter, cond}
 use Rattle.std.specs.Prelude.{slice_get, is_none}
 use Rattle.std.specs.List.{AllByRecursion, list_any, list_all, flat_map}
 use Rattle.std.proofs.lemmas.Bool.{eqb-true, and_parts, and_from, or_cases, true≢false, false≢true, false_from_ne_true}
 use Rattle.std.proofs.lemmas.Grind.{common_steps}
-use Rattle.plasma_tx.specs.declared.call.RootCall.{RootCall}
-use Rattle.plasma_tx.specs.Views.{Challenge, Exit, is_exit, with_exit_changed, with_answer_at, challenge_at, exits, exit_at}
-use Rattle.plasma_tx.proofs.RuleNames.{exits-distinct}
-use Rattle.watch_duty.proofs.Members.{Has, any-has, only-found, has-left, has-right}
 
 pub some_same : {A : Type 0} (x y : A) → Some x ≡ Some y → x ≡ y
 some_same x y e = cc

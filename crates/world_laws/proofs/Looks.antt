@@ -1,35 +1,12 @@
 -- What a look shows: of an exit that somebody looked after, another account's is challenged at the tip while its window
 -- is open, and the challenges of the own one are answered in their time. So a tick that doesn't go unseen keeps what
 -- holds of each exit of a held coin.
-use Rattle.std.proofs.Common.{◌≡◌, ◌≢◌, ◌⊎◌, ℕ, ◌+◌, ◌<◌, ◌==◌, ◌&&◌, not, Bool, true, false, if◌then◌else◌, List, [], ◌∷◌, inl, inr, refl, sym, ap, ◌∙◌, subst, arith, rules}
-use Rattle.std.specs.Prelude.{is_none}
-use Rattle.std.specs.List.{list_any}
-use Rattle.std.proofs.lemmas.Bool.{eq-eqb, lt-ltb, le-leb, and_parts, and_from, or_cases, or_from, not-true, not_from_false, true≢false, false≢true}
-use Rattle.std.proofs.lemmas.Grind.{common_steps}
-use Rattle.plasma_tx.specs.declared.opening.RawOpening.{RawOpening}
-use Rattle.plasma_tx.specs.declared.call.RootCall.{RootCall}
-use Rattle.plasma_tx.specs.declared.call.RootCall.TheVariants.{Tick, After, Between, Before, Respond}
-use Rattle.plasma_tx.specs.declared.views.CoinView.{CoinView}
-use Rattle.plasma_tx.specs.Views.{now, block_of, Challenge, Exit, exits, challenge_at, exit_view}
-use Rattle.plasma_tx.specs.Laws.{is_start, is_end, is_respond}
-use Rattle.plasma_tx.specs.declared.rules.TheConstants.{CHALLENGE_WINDOW, RESPONSE_WINDOW}
-use Rattle.plasma_tx.specs.Shown.{Tests, Rules, tests_by}
-use Rattle.watch_duty.specs.Duty.{tip_shown}
-use Rattle.watch_duty.proofs.Members.{Has, all-has}
-use Rattle.watch_duty.proofs.Dues.{IsDue, DueAfter, DueBetween, DueBefore, DueRespond, due_for-due}
-use Rattle.world_rules.specs.Laws.{IsDigest}
-use Rattle.world_rules.specs.Events.{Event, Joins, Watches, log_of}
-use Rattle.world_rules.specs.Exhibits.{seen, strings_of, has_clash, is_forged}
-use Rattle.world_rules.specs.Safety.{is_met, meets_challenge, is_mine}
-use Rattle.world_laws.specs.Legal.{IsLegal}
-use Rattle.world_laws.specs.Looked.{is_before, is_on_exit, fulfils, are_fulfilled, is_guardian, has_look, exit_has_look, challenge_has_look, passes_unseen, goes_unseen}
-use Rattle.world_laws.proofs.Lists.{and-seen, and-off, all-from, any-none, passes-has, any-either}
-use Rattle.world_laws.proofs.Clash.{one_leaf}
-use Rattle.world_laws.proofs.Bound.{Holding}
-use Rattle.world_laws.proofs.Held.{HeldAt}
+use Rattle.world_laws.proofs.Basics.{◌≡◌, ◌≢◌, ◌⊎◌, ℕ, ◌+◌, ◌<◌, ◌==◌, ◌&&◌, not, Bool, true, false, if◌then◌else◌, List, [], ◌∷◌, inl, inr, refl, sym, ap, ◌∙◌, subst, arith, rules, is_none, list_any, eq-eqb, lt-ltb, le-leb, and_parts, and_from, or_cases, or_from, not-true, not_from_false, true≢false, false≢true, common_steps, and-seen, and-off, all-from, any-none, passes-has, any-either}
+use Rattle.world_laws.proofs.CoinWords.{RawOpening, RootCall, Tick, After, Between, Before, Respond, CoinView, now, block_of, Challenge, Exit, exits, challenge_at, exit_view, is_start, is_end, is_respond, CHALLENGE_WINDOW, RESPONSE_WINDOW, Tests, Rules, tests_by, tip_shown, Has, all-has, IsDue, DueAfter, DueBetween, DueBefore, DueRespond, due_for-due}
+use Rattle.world_laws.proofs.WorldWords.{IsDigest, Event, Joins, Watches, log_of, seen, strings_of, has_clash, is_forged, is_met, meets_challenge, is_mine, IsLegal, is_before, is_on_exit, fulfils, are_fulfilled, is_guardian, has_look, exit_has_look, challenge_has_look, passes_unseen, goes_unseen, IfOf, AllWatched}
+use Rattle.world_laws.proofs.HeldCoins.{one_leaf, Holding, HeldAt}
 use Rattle.world_laws.proofs.DueCalls.{OffersDue, Due, due-offered}
 use Rattle.world_laws.proofs.Guards.{holds-from, watch-due, guardian-guards}
-use Rattle.world_laws.specs.Invariant.{IfOf, AllWatched}
 use Rattle.world_laws.proofs.Watched.{ticked-watched}
 use Rattle.world_laws.proofs.Earlier.{stood-before, clock-before}
 use Rattle.world_laws.proofs.Steps.{others-due, mine-due}
@@ -48,8 +25,7 @@ module _ (tests : Tests) (rules : Rules) (events : List Event) (c : ℕ) (made :
     (there : Has (exits (log_of events)) x) (c_is : x.coin ≡ c) (since : List RootCall)
     (unended : list_any (is_end c x.block) since ≡ false) where
   not-ended : list_any (is_end g.links.coin x.block) since ≡ true → ⊥
-  not-ended is =
-      true≢false (sym is ∙ ap (λ k. list_any (is_end k x.block) since) g.good.coin_is ∙ unended)
+  not-ended is = true≢false (sym is ∙ ap (λ k. list_any (is_end k x.block) since) g.good.coin_is ∙ unended)
 
   -- what is due for the exit was fulfilled, so the exit was challenged at the tip; if it isn't at the tip
   exit-fulfilled : are_fulfilled (is_on_exit c x.block) since offers ≡ true → (call : RootCall)

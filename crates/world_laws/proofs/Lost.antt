@@ -1,39 +1,15 @@
 -- A coin that was looked after isn't taken.
-use Rattle.std.proofs.Common.{◌≡◌, ◌⊎◌, ℕ, ◌+◌, ◌==◌, ◌&&◌, not, Bool, true, false, if◌then◌else◌, List, [], ◌∷◌, Option, Some, None, inl, inr, refl, sym, ap, ◌∙◌, subst, arith, rules}
-use Rattle.std.specs.Prelude.{nat_le}
-use Rattle.std.specs.Option.{option_or}
-use Rattle.std.specs.List.{list_any}
-use Rattle.std.proofs.lemmas.Bool.{cases_Bool, eq-eqb, eqb-true, le-leb, and_parts, and_from, or_parts, or_cases, or_from, not-true, not_from_false, true≢false, false≢true, false_from_ne_true}
-use Rattle.std.proofs.lemmas.Grind.{common_steps}
-use Rattle.plasma_tx.specs.declared.owner.Owner.{Owner}
-use Rattle.plasma_tx.specs.declared.call.RootCall.{RootCall}
-use Rattle.plasma_tx.specs.declared.call.RootCall.TheVariants.{After, Between, Finish}
-use Rattle.plasma_tx.specs.declared.answer.Answer.{Answer}
-use Rattle.plasma_tx.specs.Views.{now, coin_at, Exit, exits, exit_at, is_withdrawn, has_no_open_challenge}
-use Rattle.plasma_tx.specs.declared.rules.TheConstants.{EXIT_PERIOD}
-use Rattle.plasma_tx.specs.Shown.{Tests, Rules, tests_by}
-use Rattle.plasma_tx.specs.Table.{is_accepted, answer_to}
-use Rattle.plasma_tx.specs.RuleLaws.{is_paid}
-use Rattle.plasma_tx.proofs.Accepted.{accepted_calls_show}
+use Rattle.world_laws.proofs.Basics.{◌≡◌, ◌⊎◌, ℕ, ◌+◌, ◌==◌, ◌&&◌, not, Bool, true, false, if◌then◌else◌, List, [], ◌∷◌, Option, Some, None, inl, inr, refl, sym, ap, ◌∙◌, subst, arith, rules, nat_le, option_or, list_any, cases_Bool, eq-eqb, eqb-true, le-leb, and_parts, and_from, or_parts, or_cases, or_from, not-true, not_from_false, true≢false, false≢true, false_from_ne_true, common_steps, some_same, none_some, found-has}
+use Rattle.world_laws.proofs.CoinWords.{Owner, RootCall, After, Between, Finish, Answer, now, coin_at, Exit, exits, exit_at, is_withdrawn, has_no_open_challenge, EXIT_PERIOD, Tests, Rules, tests_by, is_accepted, answer_to, is_paid, accepted_calls_show, Has, all-has, contains-has}
+use Rattle.world_laws.proofs.WorldWords.{IsDigest, Event, Declares, Joins, log_of, wallet_owner, accepted, bound_by, taken_back, signed_away_by, is_sent_from, is_bundle, seen, strings_of, has_clash, is_forged, was_deposited, holds, is_mine, is_own, finish_harms, call_harms, harms, is_others, is_finish_paid, pays_own, pays_other, ends_own, takes_from, before_taking, exit_was_paid, starts_by, left_by, is_tip, LegalCall, IsLegal, is_looked_after, IfOf, AllWatched, accepted-stay, deposited-stays}
+use Rattle.world_laws.proofs.HeldCoins.{owner-stays, holding}
 use Rattle.plasma_tx.proofs.Ends.{paid_exactly}
-use Rattle.watch_duty.proofs.Members.{Has, all-has, contains-has}
-use Rattle.world_rules.specs.Laws.{IsDigest}
-use Rattle.world_rules.specs.Events.{Event, Declares, Joins, log_of, wallet_owner, accepted, bound_by, taken_back, signed_away_by, is_sent_from, is_bundle}
-use Rattle.world_rules.specs.Exhibits.{seen, strings_of, has_clash, is_forged}
-use Rattle.world_rules.specs.Safety.{was_deposited, holds, is_mine, is_own, finish_harms, call_harms, harms}
-use Rattle.world_rules.specs.Verdicts.{is_others, is_finish_paid, pays_own, pays_other, ends_own, takes_from, before_taking, exit_was_paid}
-use Rattle.world_laws.specs.Legal.{starts_by, left_by, is_tip, LegalCall, IsLegal}
-use Rattle.world_laws.specs.Looked.{is_looked_after}
-use Rattle.world_laws.proofs.Lists.{some_same, none_some, found-has}
-use Rattle.world_laws.proofs.Bound.{owner-stays, holding}
 use Rattle.world_laws.proofs.Guards.{holds-from}
 use Rattle.world_laws.proofs.Offers.{left_start}
-use Rattle.world_laws.specs.Invariant.{IfOf, AllWatched}
 use Rattle.world_laws.proofs.Before.{none-before, forged-parts, legal-before}
 use Rattle.world_laws.proofs.Safe.{looked-parts, watched, safe-event}
 use Rattle.world_laws.proofs.OwnExits.{IsOwnAt, IfOwn, IsStartedBy, came-from, undeclared-none, own_kept}
 use Rattle.world_laws.proofs.Exhibited.{or-none}
-use Rattle.world_rules.proofs.HeldTips.{accepted-stay, deposited-stays}
 
 -- ---- holding goes on
 

@@ -1,36 +1,10 @@
 -- The note of a coin that a wallet accepts is never too long: a coin has at most as many links as the chain has blocks,
 -- and a link's opening is short, since its leaf is a transfer with a valid signature.
-use Rattle.std.proofs.Common.{◌≡◌, ℕ, zero, suc, ◌+◌, ◌-◌, ◌*◌, ◌≤◌, ◌==◌, Bool, true, false, if◌then◌else◌, List, [], ◌∷◌, ◌++◌, length, map, filter, drop, All, Option, Some, None, Ok, Err, refl, ap, subst, length-append, length-drop, nat_lt, nat_le, arith}
-use Rattle.std.specs.Prelude.{Result}
-use Rattle.std.specs.List.{filter_map, cons_option, flat_map, range_with_len}
-use Rattle.std.specs.Option.{option_map}
-use Rattle.std.proofs.lemmas.Bool.{and_parts, eqb-true, le-ltb, false≢true}
-use Rattle.std.proofs.lemmas.List.{length-take-le, length-map}
-use Rattle.std.proofs.lemmas.List.Elements.{All-head, All-tail}
-use Rattle.std.proofs.lemmas.Grind.{common_steps}
-use Rattle.sparse_merkle.specs.MaskedPath.{MaskedPath, set_bits, has_proof_length, mask_in, proof_in}
+use Rattle.world_laws.proofs.Basics.{◌≡◌, ℕ, zero, suc, ◌+◌, ◌-◌, ◌*◌, ◌≤◌, ◌==◌, Bool, true, false, if◌then◌else◌, List, [], ◌∷◌, ◌++◌, length, map, filter, drop, All, Option, Some, None, Ok, Err, refl, ap, subst, length-append, length-drop, nat_lt, nat_le, arith, Result, filter_map, cons_option, flat_map, range_with_len, option_map, and_parts, eqb-true, le-ltb, false≢true, length-take-le, length-map, All-head, All-tail, common_steps, some_same}
+use Rattle.world_laws.proofs.CoinWords.{MaskedPath, set_bits, has_proof_length, mask_in, proof_in, Owner, Opening, RawOpening, Link, Links, SignedTx, RootCall, leaf_length, leaf_in, opening_in, number_text, signed_in, transfer_in, is_signed_by, blocks, opening_in-ok, tests_by, Bundle, length_text, item_text, bundle_text, is_committed, committed_blocks, opens_block, transfer_of, link_of, links_in, AreLinked, IsHistory, committed-le}
+use Rattle.world_laws.proofs.NodeWords.{chain_of, kept_of, most_note, Accepts, note_text}
 use Rattle.sparse_merkle.proofs.ProofLaws.{set_bits-bound}
-use Rattle.plasma_tx.specs.declared.owner.Owner.{Owner}
-use Rattle.plasma_tx.specs.declared.opening.Opening.{Opening}
-use Rattle.plasma_tx.specs.declared.opening.RawOpening.{RawOpening}
-use Rattle.plasma_tx.specs.declared.links.Link.{Link}
-use Rattle.plasma_tx.specs.declared.links.Links.{Links}
-use Rattle.plasma_tx.specs.declared.signed_tx.SignedTx.{SignedTx}
-use Rattle.plasma_tx.specs.declared.call.RootCall.{RootCall}
-use Rattle.plasma_tx.specs.Openings.{leaf_length, leaf_in, opening_in}
-use Rattle.plasma_tx.specs.Spelling.{number_text, signed_in}
-use Rattle.plasma_tx.specs.Transfer.{transfer_in, is_signed_by}
-use Rattle.plasma_tx.specs.Views.{blocks}
-use Rattle.plasma_tx.proofs.OpeningTexts.{opening_in-ok}
-use Rattle.plasma_tx.specs.Shown.{tests_by}
-use Rattle.coin_history.specs.declared.bundle.Bundle.{Bundle}
-use Rattle.coin_history.specs.Bundles.{length_text, item_text, bundle_text}
-use Rattle.coin_history.specs.History.{is_committed, committed_blocks, opens_block, transfer_of, link_of, links_in, AreLinked, IsHistory}
-use Rattle.coin_history.proofs.HistoryGrow.{committed-le}
-use Rattle.node_rules.specs.Kept.{chain_of, kept_of, most_note}
-use Rattle.node_rules.specs.WalletRecords.{Accepts, note_text}
 use Rattle.operator_rules.proofs.Openings.{leaf-short}
-use Rattle.world_laws.proofs.Lists.{some_same}
 
 -- ---- openings
 

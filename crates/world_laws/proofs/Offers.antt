@@ -1,38 +1,10 @@
 -- A start that a wallet's leave offers is the start of an exit at a tip that it has.
-use Rattle.std.proofs.Common.{◌≡◌, ℕ, ◌-◌, ◌==◌, true, false, if◌then◌else◌, List, [], ◌∷◌, length, Option, Some, None, inl, inr, refl, sym, ap, ◌∙◌, subst, arith, rules}
-use Rattle.std.specs.Option.{option_map_or}
-use Rattle.std.specs.List.{AllByRecursion}
-use Rattle.std.proofs.lemmas.Bool.{eqb-true, or_cases, or_left, or_right, false≢true}
-use Rattle.std.proofs.lemmas.Grind.{common_steps}
-use Rattle.plasma_tx.specs.declared.owner.Owner.{Owner}
-use Rattle.plasma_tx.specs.declared.links.Link.{Link}
-use Rattle.plasma_tx.specs.declared.links.Links.{Links}
-use Rattle.plasma_tx.specs.declared.call.RootCall.{RootCall}
-use Rattle.plasma_tx.specs.declared.views.CoinView.{CoinView}
-use Rattle.plasma_tx.specs.declared.views.ExitView.{ExitView}
-use Rattle.plasma_tx.specs.Links.{last_spend, tip_of}
-use Rattle.plasma_tx.specs.Views.{coin_at, exits_of}
-use Rattle.plasma_tx.specs.Shown.{Tests, Rules}
-use Rattle.coin_history.specs.declared.bundle.Bundle.{Bundle}
-use Rattle.coin_history.specs.History.{links_of}
-use Rattle.coin_history.proofs.HistoryGrow.{coin_at-grown}
-use Rattle.coin_history.proofs.HistoryLinks.{none-linked}
-use Rattle.node_rules.specs.Kept.{kept_links}
-use Rattle.node_rules.specs.Wallet.{start_by, start_of}
-use Rattle.node_rules.specs.Watcher.{due_for_kept}
-use Rattle.watch_duty.specs.Duty.{due_for, due_of}
-use Rattle.watch_duty.proofs.Members.{Has, all-has, contains-has, has-flat_map}
-use Rattle.watch_duty.proofs.Dues.{IsDue as IsDueFor, due_for-due}
-use Rattle.world_rules.specs.Events.{Event, Leaves, log_of, coin_of_call, wallet_owner, accepted}
-use Rattle.node_replies.specs.Orders.{exit_block}
-use Rattle.world_laws.specs.Headline.{is_start}
-use Rattle.world_laws.specs.Legal.{starts_by, left_by, is_tip, ShowsTip, Taken, Bare, LegalLeave, IsLegal}
-use Rattle.world_laws.proofs.Lists.{some_same, got-has}
-use Rattle.world_laws.proofs.Histories.{links-at}
-use Rattle.world_laws.proofs.Bound.{owner-stays, Holding, holding, is_noted}
-use Rattle.world_laws.proofs.Held.{held_at, deposited-coin}
+use Rattle.world_laws.proofs.Basics.{◌≡◌, ℕ, ◌-◌, ◌==◌, true, false, if◌then◌else◌, List, [], ◌∷◌, length, Option, Some, None, inl, inr, refl, sym, ap, ◌∙◌, subst, arith, rules, option_map_or, AllByRecursion, eqb-true, or_cases, or_left, or_right, false≢true, common_steps, some_same, got-has}
+use Rattle.world_laws.proofs.CoinWords.{Owner, Link, Links, RootCall, CoinView, ExitView, last_spend, tip_of, coin_at, exits_of, Tests, Rules, Bundle, links_of, coin_at-grown, none-linked, due_for, due_of, Has, all-has, contains-has, has-flat_map, IsDueFor, due_for-due}
+use Rattle.world_laws.proofs.NodeWords.{kept_links, start_by, start_of, due_for_kept, exit_block}
+use Rattle.world_laws.proofs.WorldWords.{Event, Leaves, log_of, coin_of_call, wallet_owner, accepted, is_start, starts_by, left_by, is_tip, ShowsTip, Taken, Bare, LegalLeave, IsLegal, coin-stays}
+use Rattle.world_laws.proofs.HeldCoins.{links-at, owner-stays, Holding, holding, is_noted, held_at, deposited-coin}
 use Rattle.world_laws.proofs.Guards.{kept-some}
-use Rattle.world_rules.proofs.HeldTips.{coin-stays}
 
 -- ---- what is due starts no exit
 
@@ -165,5 +137,4 @@ module _ (tests : Tests) (rules : Rules) where
         ])
         | false ↦ λ other there. left_start events w call legal.1 there
       ]) refl h)
-  left_start (event ∷ events) w call legal h =
-      left-on event events w call legal (left_start events w call legal.1 h)
+  left_start (event ∷ events) w call legal h = left-on event events w call legal (left_start events w call legal.1 h)

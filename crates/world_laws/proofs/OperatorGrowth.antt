@@ -1,31 +1,10 @@
 -- What became of the operator since an earlier line: the chain's tag stays, its notes grow, and so do its sealed trees.
-use Rattle.std.proofs.Common.{◌≡◌, ℕ, Bool, true, false, if◌then◌else◌, List, [], ◌∷◌, ◌++◌, Option, Some, None, inl, inr, refl, sym, ap, ◌∙◌, subst, slice_get, find, arith, rules}
-use Rattle.std.specs.Prelude.{reverse}
-use Rattle.std.specs.List.{filter_map, cons_option}
-use Rattle.std.proofs.lemmas.List.{reverse-append}
-use Rattle.std.proofs.lemmas.List.Elements.{filter_map-append}
-use Rattle.std.proofs.lemmas.Grind.{common_steps}
-use Rattle.node_journal.specs.Role.{are_of}
-use Rattle.sparse_merkle.specs.declared.tree.Entry.{Entry}
-use Rattle.plasma_tx.specs.Shown.{Rules}
-use Rattle.schedule_text.specs.declared.line.Line.{Line}
-use Rattle.schedule_text.specs.declared.command.Command.{Command}
-use Rattle.operator_rules.specs.Records.{Note, Offered, Laid, Sealed, note_in, operator_kinds, who_is, notes_of}
-use Rattle.operator_rules.specs.Trees.{Forest, after_note, forest_of, tree_of}
-use Rattle.operator_rules.specs.Commands.{forest_in}
-use Rattle.node_replies.specs.Orders.{with_record}
-use Rattle.world_rules.specs.World.{Node, World}
-use Rattle.world_rules.specs.Steps.{TraceEntry, entry_of, Run}
-use Rattle.world_rules.specs.Laws.{IsCommandIn}
-use Rattle.world_rules.proofs.Lives.{begun}
-use Rattle.world_rules.specs.Acts.{NewWallet, NewWatcher, NewRogue, Act, Adds, Orders, Crashes, End, Whole, Crashed, Kept, Lost, act_of, end_of, node_after, deed_at}
-use Rattle.world_rules.specs.Evidence.{IsActIn}
-use Rattle.world_rules.proofs.Lives.{line_effect}
-use Rattle.world_rules.proofs.Nodes.{change_of, IsKeptOwn, each_node_keeps}
-use Rattle.world_rules.proofs.Told.{rules-stay}
-use Rattle.world_laws.specs.Headline.{IsRun}
+use Rattle.world_laws.proofs.Basics.{◌≡◌, ℕ, Bool, true, false, if◌then◌else◌, List, [], ◌∷◌, ◌++◌, Option, Some, None, inl, inr, refl, sym, ap, ◌∙◌, subst, slice_get, find, arith, rules, reverse, filter_map, cons_option, reverse-append, filter_map-append, common_steps, some_same, append-assoc}
+use Rattle.world_laws.proofs.CoinWords.{Entry, Rules}
+use Rattle.world_laws.proofs.NodeWords.{are_of, with_record}
+use Rattle.world_laws.proofs.OperatorWords.{Note, Offered, Laid, Sealed, note_in, operator_kinds, who_is, notes_of, Forest, after_note, forest_of, tree_of, forest_in}
+use Rattle.world_laws.proofs.WorldWords.{Line, Command, Node, World, TraceEntry, entry_of, Run, IsCommandIn, begun, NewWallet, NewWatcher, NewRogue, Act, Adds, Orders, Crashes, End, Whole, Crashed, Kept, Lost, act_of, end_of, node_after, deed_at, IsActIn, line_effect, change_of, IsKeptOwn, each_node_keeps, rules-stay, IsRun}
 use Rattle.world_laws.proofs.Acts.{IsNext, over_acts}
-use Rattle.world_laws.proofs.Lists.{some_same, append-assoc}
 
 -- ---- notes
 

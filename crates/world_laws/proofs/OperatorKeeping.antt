@@ -1,31 +1,10 @@
 -- An operator that keeps to the rules: what its notes and the log are as acts, that these are honest, and that one
 -- more event leaves it so.
-use Rattle.std.proofs.Common.{◌≡◌, ℕ, suc, ◌+◌, ◌<◌, ◌≤◌, Bool, true, false, if◌then◌else◌, List, [], ◌∷◌, ◌++◌, Some, Ok, refl, sym, ap, ◌∙◌, subst, slice_get, arith}
-use Rattle.std.specs.Option.{option_and_then}
-use Rattle.std.proofs.lemmas.Bool.{true≢false, false≢true}
-use Rattle.std.proofs.lemmas.Slice.Eq.{bytes_eq-Decides}
-use Rattle.std.proofs.lemmas.Grind.{common_steps}
-use Rattle.line_forms.proofs.FormLaws.{and_then_some}
-use Rattle.node_journal.specs.Role.{are_of}
-use Rattle.sparse_merkle.specs.declared.tree.Entry.{Entry}
-use Rattle.sparse_merkle.specs.TreeDigest.{leaf_of}
-use Rattle.plasma_tx.specs.declared.signed_tx.SignedTx.{SignedTx}
-use Rattle.plasma_tx.specs.declared.call.RootCall.{RootCall}
-use Rattle.plasma_tx.specs.Chain.{Chain, with_log}
-use Rattle.plasma_tx.specs.Spelling.{signed_in}
-use Rattle.plasma_tx.specs.Transfer.{may_stand_in}
-use Rattle.plasma_tx.specs.Views.{blocks}
-use Rattle.plasma_tx.specs.Shown.{root_at}
-use Rattle.coin_history.proofs.HistoryGrow.{root_at-grown}
-use Rattle.watch_duty.proofs.Members.{Has}
-use Rattle.operator_rules.specs.Records.{Identity, Note, Offered, Laid, Sealed, operator_kinds, who_is, notes_of}
-use Rattle.operator_rules.specs.Trees.{Forest, after_note, forest_of, tree_of, tree_at}
-use Rattle.operator_rules.specs.Commands.{forest_in}
-use Rattle.operator_rules.specs.Acts.{Act, Called, Kept, log_of, kept_notes, sealed_in, times_committed, times_sealed, IsInTime, IsHonestNote, IsHonestCall, IsHonest}
-use Rattle.operator_rules.proofs.Trees.{root_at-le, root_at-new, tree_of-grow, count-push}
-use Rattle.world_rules.specs.Events.{Event, Joins, is_command_of}
-use Rattle.world_rules.specs.World.{Operator, Node}
-use Rattle.world_laws.specs.Bundles.{is_commit, commits_since}
+use Rattle.world_laws.proofs.Basics.{◌≡◌, ℕ, suc, ◌+◌, ◌<◌, ◌≤◌, Bool, true, false, if◌then◌else◌, List, [], ◌∷◌, ◌++◌, Some, Ok, refl, sym, ap, ◌∙◌, subst, slice_get, arith, option_and_then, true≢false, false≢true, bytes_eq-Decides, common_steps}
+use Rattle.world_laws.proofs.CoinWords.{Entry, leaf_of, SignedTx, RootCall, Chain, with_log, signed_in, may_stand_in, blocks, root_at, root_at-grown, Has}
+use Rattle.world_laws.proofs.NodeWords.{are_of}
+use Rattle.world_laws.proofs.OperatorWords.{Identity, Note, Offered, Laid, Sealed, operator_kinds, who_is, notes_of, Forest, after_note, forest_of, tree_of, tree_at, forest_in, Act, Called, Kept, log_of, kept_notes, sealed_in, times_committed, times_sealed, IsInTime, IsHonestNote, IsHonestCall, IsHonest, root_at-le, root_at-new, tree_of-grow, count-push}
+use Rattle.world_laws.proofs.WorldWords.{and_then_some, Event, Joins, is_command_of, Operator, Node, is_commit, commits_since}
 use Rattle.world_laws.proofs.OperatorActs.{commits_root}
 
 -- ---- what is kept

@@ -1,36 +1,13 @@
 -- The promises of every schedule, from those of legal events: the events of a run are legal, and so are those up to
 -- each line.
-use Rattle.std.proofs.Common.{◌≡◌, ◌⊎◌, inl, inr, ◌≤◌, ℕ, ◌+◌, ◌||◌, true, false, if◌then◌else◌, List, [], ◌∷◌, ◌++◌, is_some, Contains, refl, sym, ap, ◌∙◌, subst, arith, rules}
-use Rattle.std.specs.Prelude.{◌≢◌}
-use Rattle.std.specs.List.{list_any}
-use Rattle.std.proofs.Math.Nat.{le_refl}
-use Rattle.std.proofs.lemmas.Bool.{or_parts, ne_eqb, eq-eqb}
-use Rattle.plasma_tx.specs.declared.call.RootCall.{RootCall}
-use Rattle.plasma_tx.specs.Views.{coins}
-use Rattle.plasma_tx.specs.Shown.{Tests, Rules, tests_by, rules_of}
-use Rattle.plasma_tx.specs.Table.{answer_to, is_accepted}
-use Rattle.schedule_text.specs.declared.line.Line.{Line}
-use Rattle.world_rules.specs.Events.{Event, Joins, Watches, log_of, wallet_owner, is_command_of, offered}
-use Rattle.world_rules.specs.World.{World}
-use Rattle.world_rules.specs.Steps.{Run, events_of}
-use Rattle.world_rules.specs.Safety.{is_watch, is_joined}
-use Rattle.world_laws.specs.Headline.{IsRun, HeldCoinsAreSafe, OneWalletHolds, lacks_bond, DueCallsAreTaken, HarmsAreTakings, LostIsExhibited, IsTaken, StartsAreTaken}
-use Rattle.world_laws.specs.LegalLaws.{was_declared_before, fresh_offers}
-use Rattle.world_laws.specs.Looked.{LookedAfterCoinsAreSafe, LookingOftenIsEnough, is_taken_kind, WentUnseen, TakenCoinsWentUnseen}
+use Rattle.world_laws.proofs.Basics.{◌≡◌, ◌⊎◌, inl, inr, ◌≤◌, ℕ, ◌+◌, ◌||◌, true, false, if◌then◌else◌, List, [], ◌∷◌, ◌++◌, is_some, Contains, refl, sym, ap, ◌∙◌, subst, arith, rules, ◌≢◌, list_any, le_refl, or_parts, ne_eqb, eq-eqb, option_map_or, common_steps}
+use Rattle.world_laws.proofs.CoinWords.{RootCall, coins, Tests, Rules, tests_by, rules_of, answer_to, is_accepted}
+use Rattle.world_laws.proofs.WorldWords.{Line, Event, Joins, Watches, log_of, wallet_owner, is_command_of, offered, World, Run, events_of, is_watch, is_joined, IsRun, HeldCoinsAreSafe, OneWalletHolds, lacks_bond, DueCallsAreTaken, HarmsAreTakings, LostIsExhibited, IsTaken, StartsAreTaken, was_declared_before, fresh_offers, LookedAfterCoinsAreSafe, LookingOftenIsEnough, is_taken_kind, WentUnseen, TakenCoinsWentUnseen, IsLegal, logs_are_of_events, Exhibit, exhibit_of, exhibit_of_run, IsOfHeld, verdicts_are_of_held_coins}
 use Rattle.world_laws.proofs.Often.{often_looked_after}
-use Rattle.world_laws.specs.Legal.{IsLegal}
 use Rattle.world_laws.proofs.Attended.{attended_are_looked_after}
-use Rattle.world_rules.proofs.RunLaws.{logs_are_of_events}
 use Rattle.world_laws.proofs.CoinEvents.{runs-legal}
 use Rattle.world_laws.proofs.Safe.{legal_coins_are_safe}
 use Rattle.world_laws.proofs.OneHolder.{one_wallet_holds}
-use Rattle.world_rules.specs.declared.verdict.Exhibit.{Exhibit}
-use Rattle.world_rules.specs.Exhibits.{exhibit_of}
-use Rattle.world_rules.specs.Verdicts.{exhibit_of_run}
-use Rattle.std.specs.Option.{option_map_or}
-use Rattle.std.proofs.lemmas.Grind.{common_steps}
-use Rattle.world_rules.specs.Laws.{IsOfHeld}
-use Rattle.world_rules.proofs.VerdictLaws.{verdicts_are_of_held_coins}
 use Rattle.world_laws.proofs.Starts.{starts_are_taken}
 use Rattle.world_laws.proofs.Taken.{lost_is_exhibited, taken_unseen}
 use Rattle.world_laws.proofs.Takings.{legal-takings}

@@ -1,51 +1,9 @@
 -- What a wallet's command gives out that is answered with a leaf is the body that the leaf binds, with the signature.
-use Rattle.std.proofs.Common.{◌≡◌, ℕ, ◌^◌, ◌<◌, Bool, true, false, if◌then◌else◌, List, [], ◌∷◌, ◌++◌, Option, Some, None, refl, sym, ap, ◌∙◌, subst, arith}
-use Rattle.std.specs.Prelude.{Result, IfSome, slice_get, unwrap_or}
-use Rattle.std.proofs.lemmas.Bool.{and_parts, eq-eqb}
-use Rattle.std.proofs.lemmas.Grind.{common_steps}
-use Rattle.line_forms.proofs.FormLaws.{option_map_some}
-use Rattle.leaf_journal.specs.Records.{messages_of}
-use Rattle.lms_sign.specs.Tree.{signature_of}
-use Rattle.plasma_tx.specs.declared.owner.Owner.{Owner}
-use Rattle.plasma_tx.specs.declared.body.Body.{Body}
-use Rattle.plasma_tx.specs.declared.call.RootCall.{RootCall}
-use Rattle.plasma_tx.specs.Spelling.{IsBody, body_text, body_at_start}
-use Rattle.schedule_text.specs.declared.line.Line.{Line}
-use Rattle.schedule_text.specs.declared.command.Command.{Command}
-use Rattle.schedule_text.specs.declared.command.WalletCommand.{WalletCommand}
-use Rattle.wallet_core.specs.declared.coin_state.CoinState.TheVariants.{Held}
-use Rattle.node_rules.specs.declared.answers.Sent.{Sent}
-use Rattle.node_rules.specs.declared.refusal.WalletRefusal.{WalletRefusal}
-use Rattle.node_rules.specs.WalletRecords.{who_is, secret_of, leaves_in}
-use Rattle.node_rules.specs.Wallet.{WalletRecords, WalletEffect, who, used, coin_state, last_leaf, accept_effect, send_effect, again_by, again_answer, leave_effect, reclaim_effect, migrate_effect}
-use Rattle.node_rules.specs.WalletCommandLaws.{sent_body}
-use Rattle.node_rules.proofs.WalletGrow.{wallet-parts}
-use Rattle.node_rules.proofs.WalletTips.{tag-long, tip-fits}
-use Rattle.node_rules.proofs.WalletRole.{held-tip}
-use Rattle.node_replies.specs.declared.reply.Reply.{Reply}
-use Rattle.node_replies.specs.Causes.{wallet_cause}
-use Rattle.world_rules.specs.Events.{Event, Binds, Other, bound_by, leaf_at}
-use Rattle.world_rules.specs.World.{Node, World, is_wallet_role, number_of, wallet_of}
-use Rattle.world_rules.specs.Deeds.{Deed}
-use Rattle.node_replies.specs.declared.order.NodeOrder.{NodeOrder}
-use Rattle.node_replies.specs.declared.order.WalletOrder.{WalletOrder}
-use Rattle.node_replies.specs.Orders.{Response, answered, on_accepted, on_sent, on_leaving, on_reclaimed, on_migrated, again_does, wallet_does}
-use Rattle.world_rules.specs.Orders.{wallet_order, order_of}
-use Rattle.world_rules.specs.OrderEvents.{event_of}
-use Rattle.world_rules.proofs.OrderEnds.{each-answer}
-use Rattle.world_rules.specs.Steps.{LineEffect, without_offers}
-use Rattle.world_rules.specs.Laws.{IsCommandIn}
-use Rattle.world_rules.proofs.Existence.{position-is}
-use Rattle.world_rules.proofs.KeptNode.{IsGoodOwner, IsFitOrder}
-use Rattle.world_rules.proofs.KeptWallet.{KeptWallet}
-use Rattle.world_rules.proofs.KeptWorld.{KeptWorld, few-blocks}
-use Rattle.world_rules.proofs.Said.{said}
-use Rattle.world_rules.specs.Acts.{Place, Cut, Act, Rests, Orders, End, Whole, Crashed, Kept, Lost, is_down_for, order_act, act_of, end_of, end_effect, deed_at, done}
-use Rattle.world_rules.proofs.Fitting.{IsFitAct}
-use Rattle.world_rules.proofs.Lookups.{IsFound, understood-in}
-use Rattle.node_replies.proofs.WalletEnds.{SendEnds, Refused, Sends, send_ends}
-use Rattle.world_rules.proofs.WalletSends.{body-signed, words}
-use Rattle.world_laws.proofs.Lists.{some_same}
+use Rattle.world_laws.proofs.Basics.{◌≡◌, ℕ, ◌^◌, ◌<◌, Bool, true, false, if◌then◌else◌, List, [], ◌∷◌, ◌++◌, Option, Some, None, refl, sym, ap, ◌∙◌, subst, arith, Result, IfSome, slice_get, unwrap_or, and_parts, eq-eqb, common_steps, some_same}
+use Rattle.world_laws.proofs.CoinWords.{signature_of, Owner, Body, RootCall, IsBody, body_text, body_at_start, Held}
+use Rattle.world_laws.proofs.NodeWords.{messages_of, Sent, WalletRefusal, secret_of, leaves_in, WalletRecords, WalletEffect, who, used, coin_state, last_leaf, accept_effect, send_effect, again_by, again_answer, leave_effect, reclaim_effect, migrate_effect, sent_body, wallet-parts, tag-long, tip-fits, held-tip, Reply, wallet_cause, NodeOrder, WalletOrder, Response, answered, on_accepted, on_sent, on_leaving, on_reclaimed, on_migrated, again_does, wallet_does, SendEnds, Refused, Sends, send_ends}
+use Rattle.world_laws.proofs.WorldWords.{option_map_some, Line, Command, WalletCommand, Event, Binds, Other, bound_by, leaf_at, Node, World, is_wallet_role, number_of, wallet_of, Deed, wallet_order, order_of, event_of, each-answer, LineEffect, without_offers, IsCommandIn, position-is, IsGoodOwner, IsFitOrder, KeptWallet, KeptWorld, few-blocks, said, Place, Cut, Act, Rests, Orders, End, Whole, Crashed, Kept, Lost, is_down_for, order_act, act_of, end_of, end_effect, deed_at, done, IsFitAct, IsFound, understood-in, body-signed, words}
+use Rattle.node_rules.specs.WalletRecords.{who_is}
 use Rattle.world_laws.proofs.SignedMessages.{leaf-newest, used-is, message-body, last-message}
 
 -- The bytes are the text of the body that leaf q of node n binds, with the event, and the signature of it by that leaf.

@@ -1,38 +1,9 @@
 -- Over every run, what a wallet's node gave out is what its leaf binds, so no leaf of its key signs two messages.
-use Rattle.std.proofs.Common.{◌≡◌, ℕ, true, List, [], ◌∷◌, ◌++◌, slice_get, Option, Some, None, inl, inr, refl, sym, ap, ◌∙◌, subst, arith}
-use Rattle.std.specs.Prelude.{option_map, option_and_then}
-use Rattle.std.specs.List.{filter_map, cons_option}
-use Rattle.std.proofs.lemmas.Bool.{false≢true}
-use Rattle.std.proofs.lemmas.List.Folds.{find_at}
-use Rattle.std.proofs.lemmas.Grind.{common_steps}
-use Rattle.line_forms.proofs.FormLaws.{and_then_some, option_map_some}
-use Rattle.lms_sign.specs.Tree.{signature_of}
-use Rattle.plasma_tx.specs.declared.owner.Owner.{Owner}
-use Rattle.plasma_tx.specs.declared.body.Body.{Body}
-use Rattle.plasma_tx.specs.Spelling.{body_text, body_at_start}
-use Rattle.schedule_text.specs.declared.line.Line.{Line}
-use Rattle.schedule_text.specs.declared.command.Command.{Command}
-use Rattle.schedule_text.specs.declared.command.WalletCommand.{WalletCommand}
-use Rattle.node_rules.specs.declared.identity.WalletIdentity.{WalletIdentity}
-use Rattle.node_rules.specs.WalletRecords.{secret_of, who_is}
-use Rattle.watch_duty.proofs.Members.{Has, has-contains, contains-has}
-use Rattle.node_replies.specs.declared.reply.Reply.{Reply}
-use Rattle.world_rules.specs.Events.{Event, bound_by, leaf_at}
-use Rattle.world_rules.specs.World.{Node, World, is_wallet_role, number_of, owner_of_node, owner_named}
-use Rattle.world_rules.specs.Steps.{LineEffect, TraceEntry, entry_of, Run, events_of}
-use Rattle.world_rules.specs.Verdicts.{GivenOut, wallet_of_line, leaf_sent, given_by, given_out}
-use Rattle.world_rules.specs.Laws.{IsCommandIn}
-use Rattle.world_rules.proofs.Existence.{position-parts}
-use Rattle.world_rules.proofs.KeptRun.{run-kept}
-use Rattle.world_rules.proofs.KeptWorld.{KeptWorld}
-use Rattle.world_rules.proofs.NodeLaws.{NodesGrow, records_grow}
-use Rattle.world_rules.proofs.Lives.{begun}
-use Rattle.world_laws.specs.Headline.{IsRun, GivenOutIsBound, LeavesSignOneMessage}
-use Rattle.world_laws.proofs.Lists.{some_same, none_some}
-use Rattle.world_rules.specs.Acts.{Act, act_of}
-use Rattle.world_rules.proofs.Lines.{steps_are_of_acts}
-use Rattle.world_rules.proofs.Fitting.{IsFitAct}
-use Rattle.world_rules.proofs.Lives.{line_effect}
+use Rattle.world_laws.proofs.Basics.{◌≡◌, ℕ, true, List, [], ◌∷◌, ◌++◌, slice_get, Option, Some, None, inl, inr, refl, sym, ap, ◌∙◌, subst, arith, option_map, option_and_then, filter_map, cons_option, false≢true, find_at, common_steps, some_same, none_some}
+use Rattle.world_laws.proofs.CoinWords.{signature_of, Owner, Body, body_text, body_at_start, Has, has-contains, contains-has}
+use Rattle.world_laws.proofs.NodeWords.{WalletIdentity, secret_of, Reply}
+use Rattle.world_laws.proofs.WorldWords.{and_then_some, option_map_some, Line, Command, WalletCommand, Event, bound_by, leaf_at, Node, World, is_wallet_role, number_of, owner_of_node, owner_named, LineEffect, TraceEntry, entry_of, Run, events_of, GivenOut, wallet_of_line, leaf_sent, given_by, given_out, IsCommandIn, position-parts, run-kept, KeptWorld, NodesGrow, records_grow, begun, IsRun, GivenOutIsBound, LeavesSignOneMessage, Act, act_of, steps_are_of_acts, IsFitAct, line_effect}
+use Rattle.node_rules.specs.WalletRecords.{who_is}
 use Rattle.world_laws.proofs.Acts.{IsNext, over_acts}
 use Rattle.world_laws.proofs.SignedDeeds.{named-role, new-sent}
 use Rattle.world_laws.proofs.SignedStays.{stays, leaf-stays, KeysApart, keys-act}
@@ -137,8 +108,7 @@ next-signed dig lines run world line act next holds = record {
 
 runs-signed : (dig : List ℕ → List ℕ) (lines : List Line) (run : Run) (world : World) → IsRun dig lines run world
     → IsSignedRun run.entries world
-runs-signed dig =
-    over_acts dig IsSignedRun (λ tag operator most fits. first-signed tag operator most) (next-signed dig)
+runs-signed dig = over_acts dig IsSignedRun (λ tag operator most fits. first-signed tag operator most) (next-signed dig)
 
 -- ---- what is given out
 

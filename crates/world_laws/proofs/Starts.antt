@@ -1,53 +1,17 @@
 -- A start that a wallet offers is taken while the wallet holds the coin there.
-use Rattle.std.proofs.Common.{◌≡◌, ℕ, suc, ◌+◌, ◌-◌, ◌<◌, ◌==◌, not, Bool, true, false, if◌then◌else◌, List, [], ◌∷◌, ◌++◌, length, take, Option, Some, None, inl, inr, refl, sym, ap, ◌∙◌, subst, arith, rules}
-use Rattle.std.specs.Prelude.{is_some, slice_get}
-use Rattle.std.specs.Option.{option_map, option_map_or}
-use Rattle.std.specs.List.{AllByRecursion}
-use Rattle.std.proofs.lemmas.Bool.{eq-eqb, eqb-true, lt-ltb, ltb-true, and_from, not_from_true, true≢false}
-use Rattle.std.proofs.lemmas.List.Elements.{recursion_from_All}
-use Rattle.std.proofs.lemmas.Grind.{common_steps}
-use Rattle.plasma_tx.specs.declared.owner.Owner.{Owner}
-use Rattle.plasma_tx.specs.declared.opening.RawOpening.{RawOpening}
-use Rattle.plasma_tx.specs.declared.signed_tx.SignedTx.{SignedTx}
-use Rattle.plasma_tx.specs.declared.links.Link.{Link}
-use Rattle.plasma_tx.specs.declared.links.Links.{Links}
-use Rattle.plasma_tx.specs.declared.call.Shown.{Shown}
-use Rattle.plasma_tx.specs.declared.call.Shown.TheVariants.{Deposit as AtDeposit, Spend}
-use Rattle.plasma_tx.specs.declared.call.RootCall.{RootCall}
-use Rattle.plasma_tx.specs.declared.call.RootCall.TheVariants.{StartDeposit, StartSpend}
-use Rattle.plasma_tx.specs.declared.answer.Answer.{Answer}
+use Rattle.world_laws.proofs.Basics.{◌≡◌, ℕ, suc, ◌+◌, ◌-◌, ◌<◌, ◌==◌, not, Bool, true, false, if◌then◌else◌, List, [], ◌∷◌, ◌++◌, length, take, Option, Some, None, inl, inr, refl, sym, ap, ◌∙◌, subst, arith, rules, is_some, slice_get, option_map, option_map_or, AllByRecursion, eq-eqb, eqb-true, lt-ltb, ltb-true, and_from, not_from_true, true≢false, recursion_from_All, common_steps, some_same, got-has}
+use Rattle.world_laws.proofs.CoinWords.{Owner, RawOpening, SignedTx, Link, Links, Shown, AtDeposit, Spend, RootCall, StartDeposit, StartSpend, Answer, Refusal, CoinView, last_spend, tip_of, last_owner_of, now, coin_at, exit_at, block_of, is_withdrawn, EXIT_BOND, EXIT_PERIOD, Tests, Rules, tests_by, root_at, shown_tx, shown_owner, Cause, decided, too_poor, is_committed_after, is_parent_of, may_exit_at, start_spend_causes, where_coin, answer_to, is_accepted, ShowsTx, Bundle, opens_block, links_in, links_of, AreLinked, tip_from, owner_from, tip-is, last_owner-is, none-linked, tip_shown, Has, has-left, has-right, has-contains, contains-has}
+use Rattle.world_laws.proofs.NodeWords.{kept_links, start_by, start_of, exit_block, due_for_kept}
+use Rattle.world_laws.proofs.WorldWords.{Event, Watches, Leaves, Seals, log_of, coin_of_call, wallet_owner, accepted, is_command_of, offered, offers_of, is_start, starter, IsTakenAt, IsTaken, ShowsTip, Taken, Bare, LegalLeave, IsLegal, LegalStartsAreTaken}
+use Rattle.world_laws.proofs.HeldCoins.{owner-stays, holding, is_noted, IsKept, kept-grow, deposited-coin}
 use Rattle.plasma_tx.specs.declared.answer.Answer.TheVariants.{Started, Refused}
-use Rattle.plasma_tx.specs.declared.answer.Refusal.{Refusal}
 use Rattle.plasma_tx.specs.declared.answer.Refusal.TheVariants.{Withdrawn, BadBlock, NotOwner, ExitStands, BadOpening, NotChild, BadSignature}
-use Rattle.plasma_tx.specs.declared.views.CoinView.{CoinView}
-use Rattle.plasma_tx.specs.Links.{last_spend, tip_of, last_owner_of}
-use Rattle.plasma_tx.specs.Views.{now, coin_at, exit_at, block_of, is_withdrawn}
-use Rattle.plasma_tx.specs.declared.rules.TheConstants.{EXIT_BOND, EXIT_PERIOD}
-use Rattle.plasma_tx.specs.Shown.{Tests, Rules, tests_by, root_at, shown_tx, shown_owner}
-use Rattle.plasma_tx.specs.Table.{Cause, decided, too_poor, is_committed_after, is_parent_of, may_exit_at, start_spend_causes, where_coin, answer_to, is_accepted}
-use Rattle.plasma_tx.specs.Accepted.{ShowsTx}
 use Rattle.plasma_tx.proofs.Acceptance.{transfers_are_shown}
-use Rattle.coin_history.specs.declared.bundle.Bundle.{Bundle}
-use Rattle.coin_history.specs.History.{opens_block, links_in, links_of, AreLinked}
-use Rattle.coin_history.proofs.HistoryLinks.{tip_from, owner_from, tip-is, last_owner-is, none-linked}
 use Rattle.coin_history.proofs.HistoryShape.{links_rise}
-use Rattle.node_rules.specs.Kept.{kept_links}
-use Rattle.node_rules.specs.Wallet.{start_by, start_of}
-use Rattle.watch_duty.specs.Duty.{tip_shown}
-use Rattle.watch_duty.proofs.Members.{Has, has-left, has-right, has-contains, contains-has}
 use Rattle.watch_duty.proofs.GuardLinks.{Rises, rises-from, has-above, links-opened}
-use Rattle.world_rules.specs.Events.{Event, Watches, Leaves, Seals, log_of, coin_of_call, wallet_owner, accepted, is_command_of, offered, offers_of}
-use Rattle.node_replies.specs.Orders.{exit_block}
-use Rattle.world_laws.specs.Headline.{is_start, starter, IsTakenAt, IsTaken}
-use Rattle.world_laws.specs.Legal.{ShowsTip, Taken, Bare, LegalLeave, IsLegal}
-use Rattle.world_laws.specs.LegalLaws.{LegalStartsAreTaken}
-use Rattle.world_laws.proofs.Lists.{some_same, got-has}
-use Rattle.world_laws.proofs.Bound.{owner-stays, holding, is_noted, IsKept, kept-grow}
-use Rattle.world_laws.proofs.Held.{deposited-coin}
 use Rattle.world_laws.proofs.Guards.{kept-some}
 use Rattle.world_laws.proofs.Offers.{kept-no_start}
 use Rattle.world_laws.proofs.DueTaken.{bare-history}
-use Rattle.node_rules.specs.Watcher.{due_for_kept}
 
 -- ---- answers
 
@@ -165,8 +129,7 @@ module _ (tests : Tests) (rules : Rules) (log : List RootCall) (b : Bundle) (mad
       → link.tx.body.to ≡ me → (p : Option Link) → slice_get front (length front - 1) ≡ p
       → IsTakenAt log me.account b.coin link.opening.block (answer_to tests rules log (StartSpend me.account b.coin
       (option_map_or (λ (l : Link). Spend l.opening) p (AtDeposit made.deposit)) link.opening))
-  by_parent link front whole to p p_is =
-      by_case p p_is
+  by_parent link front whole to p p_is = by_case p p_is
     where
       last-has : Has (links_in rules b.coin b.openings) link
       last-has = subst (λ (l : List Link). Has l link) (sym whole) (has-right front (link ∷ []) link (inl refl))

@@ -1,42 +1,11 @@
 -- An accepted call keeps what holds of each exit of a held coin.
-use Rattle.std.proofs.Common.{◌≡◌, ◌≢◌, ◌⊎◌, ℕ, ◌+◌, ◌<◌, ◌≤◌, ◌==◌, not, Bool, true, false, if◌then◌else◌, List, [], ◌∷◌, ◌++◌, Some, inl, inr, refl, sym, ap, ◌∙◌, subst, arith, rules}
-use Rattle.std.specs.Prelude.{is_some, is_none, nat_lt}
-use Rattle.std.specs.List.{AllByRecursion}
-use Rattle.std.proofs.lemmas.Bool.{eqb-true, cases_Bool, cases_eq, cases_order, eq-eqb, ltb-true, and_parts, and_from, true≢false, false_from_ne_true}
-use Rattle.std.proofs.lemmas.Grind.{common_steps}
-use Rattle.plasma_tx.specs.declared.owner.Owner.{Owner}
-use Rattle.plasma_tx.specs.declared.opening.RawOpening.{RawOpening}
-use Rattle.plasma_tx.specs.declared.links.Link.{Link}
-use Rattle.plasma_tx.specs.declared.call.Shown.{Shown}
-use Rattle.plasma_tx.specs.declared.call.RootCall.{RootCall}
-use Rattle.plasma_tx.specs.declared.call.RootCall.TheVariants.{Fund, Tick, Deposit, Commit, StartDeposit, StartSpend, After, Between, Before, Respond, Finish}
-use Rattle.plasma_tx.specs.declared.views.CoinView.{CoinView}
-use Rattle.plasma_tx.specs.Laws.{is_challenged_at}
-use Rattle.plasma_tx.specs.Views.{now, coin_at, coins, new_coin, Challenge, Exit, is_exit, exits, exit_at, block_of, spend_exit, without_exit, challenge_at, with_challenge, with_answer, new_challenge}
+use Rattle.world_laws.proofs.Basics.{◌≡◌, ◌≢◌, ◌⊎◌, ℕ, ◌+◌, ◌<◌, ◌≤◌, ◌==◌, not, Bool, true, false, if◌then◌else◌, List, [], ◌∷◌, ◌++◌, Some, inl, inr, refl, sym, ap, ◌∙◌, subst, arith, rules, is_some, is_none, nat_lt, AllByRecursion, eqb-true, cases_Bool, cases_eq, cases_order, eq-eqb, ltb-true, and_parts, and_from, true≢false, false_from_ne_true, common_steps, some_same, none_some, all-changed, found-has, challenge-has}
+use Rattle.world_laws.proofs.CoinWords.{Owner, RawOpening, Link, Shown, RootCall, Fund, Tick, Deposit, Commit, StartDeposit, StartSpend, After, Between, Before, Respond, Finish, CoinView, is_challenged_at, now, coin_at, coins, new_coin, Challenge, Exit, is_exit, exits, exit_at, block_of, spend_exit, without_exit, challenge_at, with_challenge, with_answer, new_challenge, CHALLENGE_WINDOW, RESPONSE_WINDOW, Tests, Rules, root_at, is_accepted, answer_to, is_parent_of, StartsDeposit, StartsSpend, Challenges, Responds, accepted_calls_show, exits_are_their_owners, responds_answer, all-append, all-filter, exits-distinct, shown_openings, openings_of_call, Has, has-left, has-right, all-has, only-found}
+use Rattle.world_laws.proofs.NodeWords.{exit_block}
+use Rattle.world_laws.proofs.WorldWords.{Event, log_of, coin_of_call, wallet_owner, bound_by, seen, forges_one, is_mine, starts_by, IsLegal, IfOf, AllWatched}
+use Rattle.world_laws.proofs.HeldCoins.{walk-passes, place_of, IsShownAt, Deposited, Transferred, IsShownChallenge, IsBegun, OfDeposit, OfSpend, legal-log, legal-table, all_shown, parent_shown, SignsBy, HeldAt, shown_same}
 use Rattle.plasma_tx.proofs.Answered.{new_challenges_are_open}
-use Rattle.plasma_tx.specs.declared.rules.TheConstants.{CHALLENGE_WINDOW, RESPONSE_WINDOW}
-use Rattle.plasma_tx.specs.Shown.{Tests, Rules, root_at}
-use Rattle.plasma_tx.specs.Table.{is_accepted, answer_to, is_parent_of}
-use Rattle.plasma_tx.specs.Accepted.{StartsDeposit, StartsSpend, Challenges, Responds}
-use Rattle.plasma_tx.proofs.Accepted.{accepted_calls_show}
-use Rattle.plasma_tx.proofs.Bounds.{exits_are_their_owners, responds_answer}
-use Rattle.plasma_tx.proofs.Each.{all-append, all-filter}
-use Rattle.plasma_tx.proofs.RuleNames.{exits-distinct}
-use Rattle.watch_duty.specs.Laws.{shown_openings, openings_of_call}
-use Rattle.watch_duty.proofs.Members.{Has, has-left, has-right, all-has, only-found}
-use Rattle.world_rules.specs.Events.{Event, log_of, coin_of_call, wallet_owner, bound_by}
-use Rattle.node_replies.specs.Orders.{exit_block}
-use Rattle.world_rules.specs.Exhibits.{seen, forges_one}
-use Rattle.world_rules.specs.Safety.{is_mine}
-use Rattle.world_laws.specs.Legal.{starts_by, IsLegal}
-use Rattle.world_laws.proofs.Lists.{some_same, none_some, all-changed, found-has, challenge-has}
-use Rattle.world_laws.proofs.Walk.{walk-passes}
-use Rattle.world_laws.proofs.Histories.{place_of}
-use Rattle.world_laws.proofs.Shown.{IsShownAt, Deposited, Transferred, IsShownChallenge, IsBegun, OfDeposit, OfSpend, legal-log, legal-table, all_shown, parent_shown}
-use Rattle.world_laws.proofs.Bound.{SignsBy}
-use Rattle.world_laws.proofs.Held.{HeldAt, shown_same}
 use Rattle.world_laws.proofs.DueCalls.{OffersDue, Due, due-offered, due-old, due-later, due-planted, due-answer}
-use Rattle.world_laws.specs.Invariant.{IfOf, AllWatched}
 use Rattle.world_laws.proofs.Watched.{IsSpend, is_spend, AtEvent, owner_is, tip_before, tip_unspent, new-watched, challenged-watched, answered-watched}
 
 -- a coin's deposit block isn't 0

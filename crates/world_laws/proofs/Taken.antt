@@ -1,21 +1,7 @@
 -- A coin that was taken went unseen before at some tick, unless the events exhibit.
-use Rattle.std.proofs.Common.{◌≡◌, ℕ, true, false, if◌then◌else◌, List, [], ◌∷◌, ◌++◌, Option, Some, None, inl, inr, refl, sym, ap, ◌∙◌, arith, rules}
-use Rattle.std.specs.Prelude.{is_none}
-use Rattle.std.specs.Option.{option_or}
-use Rattle.std.proofs.lemmas.Bool.{cases_Bool, and_from, not_from_false, false≢true}
-use Rattle.std.proofs.lemmas.Grind.{common_steps}
-use Rattle.plasma_tx.specs.declared.owner.Owner.{Owner}
-use Rattle.plasma_tx.specs.Shown.{Rules, tests_by}
-use Rattle.world_rules.specs.declared.verdict.VerdictKind.{VerdictKind}
-use Rattle.world_rules.specs.declared.verdict.Exhibit.{Exhibit}
-use Rattle.world_rules.specs.Laws.{IsDigest}
-use Rattle.world_rules.specs.Events.{Event, wallet_owner}
-use Rattle.world_rules.specs.Exhibits.{exhibit_of}
-use Rattle.world_rules.specs.Verdicts.{takes_from, before_taking, first_unattended, exit_was_paid, lost_or, verdict_at}
-use Rattle.world_laws.specs.Legal.{IsLegal}
-use Rattle.world_laws.specs.LegalLaws.{LegalLostIsExhibited}
-use Rattle.world_laws.specs.Looked.{goes_unseen, is_looked_after, is_taken_kind}
-use Rattle.world_laws.proofs.Lists.{some_same, none_some, append-assoc}
+use Rattle.world_laws.proofs.Basics.{◌≡◌, ℕ, true, false, if◌then◌else◌, List, [], ◌∷◌, ◌++◌, Option, Some, None, inl, inr, refl, sym, ap, ◌∙◌, arith, rules, is_none, option_or, cases_Bool, and_from, not_from_false, false≢true, common_steps, some_same, none_some, append-assoc}
+use Rattle.world_laws.proofs.CoinWords.{Owner, Rules, tests_by}
+use Rattle.world_laws.proofs.WorldWords.{VerdictKind, Exhibit, IsDigest, Event, wallet_owner, exhibit_of, takes_from, before_taking, first_unattended, exit_was_paid, lost_or, verdict_at, IsLegal, LegalLostIsExhibited, goes_unseen, is_looked_after, is_taken_kind}
 use Rattle.world_laws.proofs.Attended.{attended_are_looked_after}
 use Rattle.world_laws.proofs.Exhibited.{no-clash, no-forgery, nothing-exhibited}
 use Rattle.world_laws.proofs.Words.{attended_is_none_unattended}

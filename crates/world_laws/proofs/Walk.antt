@@ -1,22 +1,6 @@
 -- What a history shows, as a walk along its openings.
-use Rattle.std.proofs.Common.{◌≡◌, ◌≢◌, ◌⊎◌, ℕ, ◌<◌, ◌≤◌, true, List, [], ◌∷◌, Option, Some, None, inl, inr, refl, sym, ap, ◌∙◌, subst, arith, rules}
-use Rattle.std.specs.Prelude.{is_some}
-use Rattle.std.specs.Option.{option_map}
-use Rattle.std.specs.List.{cons_option}
-use Rattle.std.proofs.lemmas.Bool.{cases_order, ne_eqb, eq-eqb}
-use Rattle.std.proofs.lemmas.Grind.{common_steps}
-use Rattle.plasma_tx.specs.declared.owner.Owner.{Owner}
-use Rattle.plasma_tx.specs.declared.opening.RawOpening.{RawOpening}
-use Rattle.plasma_tx.specs.declared.signed_tx.SignedTx.{SignedTx}
-use Rattle.plasma_tx.specs.declared.call.RootCall.{RootCall}
-use Rattle.plasma_tx.specs.Transfer.{transfer_in}
-use Rattle.plasma_tx.proofs.Leaves.{empty-none}
-use Rattle.plasma_tx.specs.Shown.{Tests, Rules, root_at}
-use Rattle.coin_history.specs.History.{leaf_of_opening, transfer_of, links_in}
-use Rattle.coin_history.proofs.HistoryLinks.{with_tx, none-linked}
-use Rattle.watch_duty.specs.Duty.{next_link}
-use Rattle.watch_duty.proofs.Members.{Has}
-use Rattle.world_laws.proofs.Lists.{some_same, none_some}
+use Rattle.world_laws.proofs.Basics.{◌≡◌, ◌≢◌, ◌⊎◌, ℕ, ◌<◌, ◌≤◌, true, List, [], ◌∷◌, Option, Some, None, inl, inr, refl, sym, ap, ◌∙◌, subst, arith, rules, is_some, option_map, cons_option, cases_order, ne_eqb, eq-eqb, common_steps, some_same, none_some}
+use Rattle.world_laws.proofs.CoinWords.{Owner, RawOpening, SignedTx, RootCall, transfer_in, empty-none, Tests, Rules, root_at, leaf_of_opening, transfer_of, links_in, with_tx, none-linked, next_link, Has}
 use Rattle.world_laws.proofs.Clash.{IsOpened}
 
 -- where a coin is
@@ -286,8 +270,7 @@ module _ (tests : Tests) (rules : Rules) where
     pub next-tip : (n : ℕ) (last : Place) (os : List RawOpening) (end : Place) → IsWalk log c n last os end
         → last.block ≤ n → next_link end.block last.block (links_in rules c os) ≡ None
     unfolding IsWalk next_link
-    next-tip n last [] end walk low =
-        ap (next_link end.block last.block) (none-linked rules c)
+    next-tip n last [] end walk low = ap (next_link end.block last.block) (none-linked rules c)
     next-tip n last (p ∷ os) end walk low =
         let up = walk-passes p.block walk.next os end walk.rest in
         let s = step-above n last p walk.next walk.step low walk.rises in
