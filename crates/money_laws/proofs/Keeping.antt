@@ -1,31 +1,10 @@
 -- Who keeps a coin: what is known of it, and what was before an event.
-use Rattle.std.proofs.Common.{◌≡◌, ◌≢◌, ◌⊎◌, ℕ, ◌<◌, ◌==◌, true, false, if◌then◌else◌, List, ◌∷◌, Some, inl, inr, refl, sym, ap, ◌∙◌, subst, arith, rules}
-use Rattle.std.specs.List.{list_any}
-use Rattle.std.proofs.lemmas.Bool.{cases_eq, ne_eqb, eqb-true, and_parts, or_cases, not-true, true≢false, false≢true, false_from_ne_true}
-use Rattle.std.proofs.lemmas.Grind.{common_steps}
-use Rattle.plasma_tx.specs.declared.owner.Owner.{Owner}
-use Rattle.plasma_tx.specs.declared.body.Body.{Body}
-use Rattle.plasma_tx.specs.declared.opening.RawOpening.{RawOpening}
-use Rattle.plasma_tx.specs.declared.call.RootCall.TheVariants.{Deposit}
-use Rattle.plasma_tx.specs.Views.{coin_at, exits}
-use Rattle.plasma_tx.specs.Shown.{Tests, Rules, tests_by}
-use Rattle.plasma_tx.specs.Links.{last_owner_of}
-use Rattle.plasma_tx.proofs.Bounds.{coin_at-le}
-use Rattle.watch_duty.proofs.Members.{Has}
-use Rattle.world_rules.specs.Laws.{IsDigest}
-use Rattle.world_rules.specs.Events.{Event, Declares, Joins, Accepts, Binds, TakesBack, log_of, wallet_owner, accepted, bound_by, taken_back, not_taken, leaf_at, signed_away_by, is_sent_from, is_bundle}
-use Rattle.world_rules.specs.Exhibits.{seen, strings_of, has_clash, forges_one}
-use Rattle.world_rules.specs.Safety.{was_deposited}
-use Rattle.world_laws.specs.Legal.{IsLegal}
-use Rattle.world_laws.proofs.Lists.{some_same, none_some, any-some}
+use Rattle.money_laws.proofs.Basics.{◌≡◌, ◌≢◌, ◌⊎◌, ℕ, ◌<◌, ◌==◌, true, false, if◌then◌else◌, List, ◌∷◌, Some, inl, inr, refl, sym, ap, ◌∙◌, subst, arith, rules, list_any, cases_eq, ne_eqb, eqb-true, and_parts, or_cases, not-true, true≢false, false≢true, false_from_ne_true, common_steps}
+use Rattle.money_laws.proofs.CoinWords.{Owner, Body, RawOpening, Deposit, coin_at, exits, Tests, Rules, tests_by, last_owner_of, coin_at-le, Has}
+use Rattle.money_laws.proofs.WorldWords.{IsDigest, Event, Declares, Joins, Accepts, Binds, TakesBack, log_of, wallet_owner, accepted, bound_by, taken_back, not_taken, leaf_at, signed_away_by, is_sent_from, is_bundle, seen, strings_of, has_clash, forges_one, was_deposited, IsLegal, some_same, none_some, any-some, IsShownAt, all_shown, seen-grow, SignsBy, is_noted, owner-is, line_bound, unspent, NoneStands, none-stands, none-before, deposit-caller, IsSpend, keeps}
 use Rattle.world_laws.proofs.Clash.{HasOneLeaf, one_leaf}
-use Rattle.world_laws.proofs.Shown.{IsShownAt, all_shown, seen-grow}
 use Rattle.world_laws.proofs.Absences.{names, away-untake, away-unbind, IsParted, parted, back-more}
-use Rattle.world_laws.proofs.Bound.{SignsBy, is_noted, owner-is, line_bound, unspent}
 use Rattle.world_laws.proofs.Held.{Known, HeldAt, known-from, deposited-coin, empty-walk, end_shown, shown_same}
-use Rattle.world_laws.proofs.Before.{NoneStands, none-stands, none-before, deposit-caller}
-use Rattle.world_laws.proofs.Watched.{IsSpend}
-use Rattle.money_laws.specs.Keepers.{keeps}
 use Rattle.world_rules.proofs.WalletAccepts.{bundle-is}
 
 -- what it is to keep
@@ -45,8 +24,7 @@ pub kept_at : (tests : Tests) (rules : Rules) (events : List Event) (w c e : ℕ
     → (h : Keeping events w c e) → HeldAt tests rules events w c e h.me
 kept_at tests rules events w c e legal h =
     elim h.source [
-      | inl deposited ↦
-          grind (arith, common_steps, deposited-coin, empty-walk)
+      | inl deposited ↦ grind (arith, common_steps, deposited-coin, empty-walk)
       | inr accepted_is ↦
           let r = any-some (is_bundle c e) (accepted events w) accepted_is in
           let n = is_noted tests rules events w r.0 legal r.1 in

@@ -1,35 +1,10 @@
 -- A held coin is safe while none of its exits comes too late.
-use Rattle.std.proofs.Common.{◌≡◌, ℕ, ◌+◌, ◌≤◌, ◌==◌, ◌&&◌, not, Bool, true, false, if◌then◌else◌, List, [], ◌∷◌, Some, None, inl, inr, refl, sym, ap, ◌∙◌, subst, arith, rules}
-use Rattle.std.specs.Prelude.{is_none, nat_lt, nat_le}
-use Rattle.std.specs.List.{list_any, list_all}
-use Rattle.std.proofs.lemmas.Bool.{cases_Bool, eq-eqb, le-ltb, le-leb, ltb-false, leb-true, and_parts, and_from, and_right, not-true, not_from_false, true≢false, false_from_ne_true}
-use Rattle.std.proofs.lemmas.Grind.{common_steps}
-use Rattle.plasma_tx.specs.declared.owner.Owner.{Owner}
-use Rattle.plasma_tx.specs.declared.opening.RawOpening.{RawOpening}
-use Rattle.plasma_tx.specs.declared.call.RootCall.{RootCall}
-use Rattle.plasma_tx.specs.Views.{now, Challenge, Exit, exits, challenge_at, is_withdrawn}
-use Rattle.plasma_tx.specs.declared.rules.TheConstants.{RESPONSE_WINDOW, EXIT_PERIOD}
-use Rattle.plasma_tx.specs.Shown.{Tests, Rules, tests_by, rules_of}
-use Rattle.plasma_tx.specs.Table.{is_payable}
-use Rattle.plasma_tx.specs.RuleLaws.{is_paid}
-use Rattle.watch_duty.proofs.Members.{Has, all-has}
-use Rattle.world_rules.specs.Laws.{IsDigest}
-use Rattle.world_rules.specs.Events.{Event, Joins, Bounces, log_of, wallet_owner, bound_by}
-use Rattle.world_rules.specs.Exhibits.{openings_of, seen, strings_of, has_clash, collides, forges_one, is_forged}
-use Rattle.world_rules.specs.Safety.{holds, is_mine, harms, is_harmed, is_safe}
-use Rattle.world_laws.specs.Legal.{IsLegal}
-use Rattle.world_laws.proofs.Lists.{any-none, and-off, all-from, found-has, all_answered-from}
-use Rattle.world_laws.proofs.Shown.{IsShownChallenge, seen-call}
-use Rattle.world_laws.proofs.Bound.{SignsBy, Holding, holding}
-use Rattle.world_laws.proofs.Before.{none-before, forged-parts, legal-before, at_event}
-use Rattle.world_laws.proofs.Watched.{AtEvent}
-use Rattle.world_laws.proofs.Steps.{of_held}
-use Rattle.money_laws.specs.First.{is_ripe, is_missed}
-use Rattle.money_laws.specs.MoneyLaws.{is_late, goes_late, is_in_time, LegalTimelyCoinsAreSafe, TimelyCoinsAreSafe}
+use Rattle.money_laws.proofs.Basics.{◌≡◌, ℕ, ◌+◌, ◌≤◌, ◌==◌, ◌&&◌, not, Bool, true, false, if◌then◌else◌, List, [], ◌∷◌, Some, None, inl, inr, refl, sym, ap, ◌∙◌, subst, arith, rules, is_none, nat_lt, nat_le, list_any, list_all, cases_Bool, eq-eqb, le-ltb, le-leb, ltb-false, leb-true, and_parts, and_from, and_right, not-true, not_from_false, true≢false, false_from_ne_true, common_steps}
+use Rattle.money_laws.proofs.CoinWords.{Owner, RawOpening, RootCall, now, Challenge, Exit, exits, challenge_at, is_withdrawn, RESPONSE_WINDOW, EXIT_PERIOD, Tests, Rules, tests_by, rules_of, is_payable, is_paid, Has, all-has}
+use Rattle.money_laws.proofs.WorldWords.{IsDigest, Event, Joins, Bounces, log_of, wallet_owner, bound_by, openings_of, seen, strings_of, has_clash, collides, forges_one, is_forged, holds, is_mine, harms, is_harmed, is_safe, IsLegal, any-none, and-off, all-from, found-has, all_answered-from, IsShownChallenge, seen-call, SignsBy, Holding, holding, none-before, forged-parts, legal-before, at_event, AtEvent, of_held, is_ripe, is_missed, is_late, goes_late, is_in_time, LegalTimelyCoinsAreSafe, TimelyCoinsAreSafe, legal-to}
+use Rattle.world_laws.proofs.Harms.{finish_answer, finish-paid, FinishesHarmNothing, not-settled, call-harmless, refused-harmless}
 use Rattle.money_laws.proofs.Keeping.{Keeping}
 use Rattle.money_laws.proofs.Tips.{IsOpenAt, AllOpenAt, opened}
-use Rattle.world_laws.proofs.Promises.{legal-to}
-use Rattle.world_laws.proofs.Harms.{finish_answer, finish-paid, FinishesHarmNothing, not-settled, call-harmless, refused-harmless}
 
 -- none of the exits of the coin is late
 abbrev pub NoneLate : ℕ → Owner → ℕ → List RootCall → Type 0

@@ -1,16 +1,9 @@
 -- The calls that are advised are accepted, over legal events.
-use Rattle.std.proofs.Common.{sym, subst, arith, rules}
-use Rattle.std.proofs.lemmas.Grind.{common_steps}
-use Rattle.plasma_tx.specs.Shown.{Tests, tests_by}
-use Rattle.coin_history.specs.History.{IsHistory}
-use Rattle.world_rules.specs.Events.{log_of}
-use Rattle.world_rules.specs.Exhibits.{seen, collides}
-use Rattle.world_laws.proofs.Clash.{HasOneLeaf, one_leaf}
-use Rattle.world_laws.proofs.Shown.{legal-log}
+use Rattle.safety_laws.proofs.Basics.{sym, subst, arith, rules, common_steps}
+use Rattle.safety_laws.proofs.CoinWords.{Tests, tests_by, IsHistory}
+use Rattle.safety_laws.proofs.WorldWords.{log_of, seen, collides, HasOneLeaf, one_leaf, legal-log, LegalActsAreAccepted, StartsAreLeaves, leaves-of}
 use Rattle.coin_safety.proofs.Accepting.{acts_are_accepted as acts_taken}
-use Rattle.safety_laws.specs.Calls.{LegalActsAreAccepted, StartsAreLeaves}
 use Rattle.safety_laws.proofs.AtLook.{keeps_it}
-use Rattle.world_laws.proofs.DueTaken.{leaves-of}
 
 pub acts_are_accepted : LegalActsAreAccepted
 unfolding collides

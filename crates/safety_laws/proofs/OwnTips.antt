@@ -1,24 +1,9 @@
 -- A wallet's own exit of a coin that it holds is at the tip.
-use Rattle.std.proofs.Common.{◌≡◌, ℕ, ◌==◌, true, false, if◌then◌else◌, List, [], ◌∷◌, Some, inl, inr, refl, sym, ◌∙◌, arith, rules}
-use Rattle.std.specs.List.{list_any}
-use Rattle.std.proofs.lemmas.Bool.{or_cases}
-use Rattle.std.proofs.lemmas.Grind.{common_steps}
-use Rattle.plasma_tx.specs.declared.owner.Owner.{Owner}
-use Rattle.plasma_tx.specs.declared.call.RootCall.{RootCall}
-use Rattle.plasma_tx.specs.Views.{coin_at, Exit, exits}
-use Rattle.plasma_tx.specs.Shown.{Tests, Rules}
-use Rattle.watch_duty.proofs.Members.{Has, all-has, contains-has}
-use Rattle.node_replies.specs.Orders.{exit_block}
-use Rattle.world_rules.specs.Events.{Event, Declares, Joins, log_of, coin_of_call, wallet_owner, accepted, is_bundle}
-use Rattle.world_rules.specs.Exhibits.{seen, is_forged}
-use Rattle.world_rules.specs.Safety.{was_deposited, is_mine}
-use Rattle.world_laws.specs.Legal.{left_by, is_left, is_tip, IsLegal}
-use Rattle.world_laws.proofs.Lists.{some_same}
-use Rattle.world_laws.proofs.Clash.{HasOneLeaf}
-use Rattle.world_laws.proofs.Bound.{SignsBy, Holding}
-use Rattle.world_laws.proofs.Held.{held_top}
+use Rattle.safety_laws.proofs.Basics.{◌≡◌, ℕ, ◌==◌, true, false, if◌then◌else◌, List, [], ◌∷◌, Some, inl, inr, refl, sym, ◌∙◌, arith, rules, list_any, or_cases, common_steps}
+use Rattle.safety_laws.proofs.CoinWords.{Owner, RootCall, coin_at, Exit, exits, Tests, Rules, Has, all-has, contains-has}
+use Rattle.safety_laws.proofs.NodeWords.{exit_block}
+use Rattle.safety_laws.proofs.WorldWords.{Event, Declares, Joins, log_of, coin_of_call, wallet_owner, accepted, is_bundle, seen, is_forged, was_deposited, is_mine, left_by, is_left, is_tip, IsLegal, some_same, HasOneLeaf, SignsBy, Holding, held_top, IsOwnAt, IfOwn, came-from, undeclared-none, left-is, left-stands, left-has}
 use Rattle.world_laws.proofs.Offers.{left_start, tip-held}
-use Rattle.world_laws.proofs.OwnExits.{IsOwnAt, IfOwn, came-from, undeclared-none, left-is, left-stands, left-has}
 
 -- a start that the wallet left
 record WasLeft (events : List Event) (w c e : ℕ) : Type 0 where

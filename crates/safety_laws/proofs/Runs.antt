@@ -1,11 +1,8 @@
 -- The laws at each line of a run.
-use Rattle.std.proofs.Common.{[], ◌∷◌}
-use Rattle.plasma_tx.specs.Shown.{tests_by, rules_of}
-use Rattle.world_laws.proofs.Promises.{legal-to, suffix-legal}
+use Rattle.safety_laws.proofs.Basics.{[], ◌∷◌}
+use Rattle.safety_laws.proofs.CoinWords.{tests_by, rules_of}
+use Rattle.safety_laws.proofs.WorldWords.{legal-to, suffix-legal, events_after, LegalLookedAtCoinsAreSafe, LookedAtCoinsAreSafe, GoneMeansGone, PaidMeansPaid, ActsOfRunsAreAccepted}
 use Rattle.money_laws.proofs.Timely.{timely_coins_are_safe}
-use Rattle.safety_laws.specs.Safe.{events_after, LegalLookedAtCoinsAreSafe, LookedAtCoinsAreSafe}
-use Rattle.safety_laws.specs.Gone.{GoneMeansGone, PaidMeansPaid}
-use Rattle.safety_laws.specs.Calls.{ActsOfRunsAreAccepted}
 use Rattle.safety_laws.proofs.SafeWords.{looks_are_enough}
 use Rattle.safety_laws.proofs.GoneWords.{gone_means_gone, paid_means_paid}
 use Rattle.safety_laws.proofs.Acts.{acts_are_accepted}

@@ -1,35 +1,12 @@
 -- What the words Safe, Leaving and Act say of the time until the next look.
-use Rattle.std.proofs.Common.{◌≡◌, ℕ, ◌≤◌, ◌==◌, Bool, true, false, List, [], ◌∷◌, ◌++◌, map, Some, inl, inr, refl, sym, ap, ◌∙◌, subst, arith, rules}
-use Rattle.std.specs.List.{list_any, Contains}
-use Rattle.std.proofs.Math.Nat.{le_refl}
-use Rattle.std.proofs.lemmas.Bool.{leb-true, or_parts, or_from, false≢true}
-use Rattle.std.proofs.lemmas.Grind.{common_steps}
-use Rattle.plasma_tx.specs.declared.owner.Owner.{Owner}
-use Rattle.plasma_tx.specs.declared.call.RootCall.{RootCall}
-use Rattle.plasma_tx.specs.Views.{now, exit_view}
-use Rattle.plasma_tx.specs.Shown.{Rules, tests_by}
-use Rattle.watch_duty.proofs.Members.{has-contains, contains-has, has-left}
-use Rattle.world_rules.specs.Laws.{IsDigest}
-use Rattle.world_rules.specs.Events.{Event, log_of, wallet_owner}
-use Rattle.world_laws.specs.Legal.{IsLegal}
-use Rattle.world_laws.proofs.Lists.{append-assoc}
-use Rattle.world_laws.proofs.DueCalls.{has-mapped}
-use Rattle.money_laws.specs.MoneyLaws.{is_in_time}
-use Rattle.coin_safety.specs.declared.kept.Kept.{Kept}
-use Rattle.coin_safety.specs.declared.word.Word.{Word}
-use Rattle.coin_safety.specs.declared.word.Word.TheVariants.{Safe, Act, Leaving}
-use Rattle.coin_safety.specs.Advice.{standing, due, shown_again, timed}
-use Rattle.coin_safety.specs.Words.{end_of_call, word_of}
-use Rattle.coin_safety.specs.Laws.{AreAhead, IsFirst, NothingIsDue, Tells}
-use Rattle.coin_safety.proofs.Telling.{words_tell}
-use Rattle.safety_laws.specs.Look.{IsLook, begins_own, is_calm, is_shut, AreShort, IsActedOn, Covers}
-use Rattle.safety_laws.specs.Safe.{LegalSafeMeansSafe, LegalLeavingMeansSafe, LegalActLeavesTime, LegalActMeansAct, events_after, AreLooks, LegalLooksAreEnough}
+use Rattle.safety_laws.proofs.Basics.{◌≡◌, ℕ, ◌≤◌, ◌==◌, Bool, true, false, List, [], ◌∷◌, ◌++◌, map, Some, inl, inr, refl, sym, ap, ◌∙◌, subst, arith, rules, list_any, Contains, le_refl, leb-true, or_parts, or_from, false≢true, common_steps}
+use Rattle.safety_laws.proofs.CoinWords.{Owner, RootCall, now, exit_view, Rules, tests_by, has-contains, contains-has, has-left, Kept, Word, Safe, Act, Leaving, standing, due, shown_again, timed, end_of_call, word_of, AreAhead, IsFirst, NothingIsDue, Tells, words_tell}
+use Rattle.safety_laws.proofs.WorldWords.{IsDigest, Event, log_of, wallet_owner, IsLegal, append-assoc, has-mapped, is_in_time, IsLook, begins_own, is_calm, is_shut, AreShort, IsActedOn, Covers, LegalSafeMeansSafe, LegalLeavingMeansSafe, LegalActLeavesTime, LegalActMeansAct, events_after, AreLooks, LegalLooksAreEnough, suffix-legal}
 use Rattle.safety_laws.proofs.AtLook.{at, standing-has, StandsTill, calm-stands}
 use Rattle.safety_laws.proofs.ActLook.{stands-there, act-stands}
 use Rattle.safety_laws.proofs.MetCalls.{met-stands}
 use Rattle.safety_laws.proofs.Since.{IsShut, clock-since, owner-since, own-since}
 use Rattle.safety_laws.proofs.Timely.{GoesTill, stays-in-time}
-use Rattle.world_laws.proofs.Promises.{suffix-legal}
 
 -- where nothing is due, nothing is, and no window ended
 calm-told : (log : List RootCall) (account clock : ℕ) (kept : Kept) (word : Word) → is_calm word ≡ true
