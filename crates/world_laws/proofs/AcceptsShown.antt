@@ -1,8 +1,8 @@
 -- What a wallet's notes accept is shown by a bundle that events say it accepted: one of the same coin and tip, with the
 -- same links. Each command keeps it so.
-use Rattle.world_laws.proofs.Basics.{◌≡◌, ℕ, ◌^◌, ◌<◌, Bool, true, false, List, [], ◌∷◌, ◌++◌, Option, Some, None, Ok, inl, inr, refl, sym, ap, ◌∙◌, subst, arith, Result, IfSome, false≢true, true≢false, common_steps}
+use Rattle.world_laws.proofs.Basics.{◌≡◌, ℕ, ◌^◌, ◌<◌, Bool, true, false, List, [], ◌∷◌, ◌++◌, Option, Some, None, Ok, inl, inr, refl, sym, subst, arith, ap, ◌∙◌, Result, IfSome, false≢true, true≢false, common_steps}
 use Rattle.world_laws.proofs.CoinWords.{Links, RootCall, blocks, Bundle, has-cases}
-use Rattle.world_laws.proofs.NodeWords.{Accepted, WalletRefusal, kept_of, links_handed, IsReadBack, Note, AcceptsNote, note_text, notes_of, accepted_of, WalletRecords, WalletEffect, who, coin_state, accept_effect, send_effect, leave_effect, reclaim_effect, migrate_effect, AddsNote, AddsAccepted, AddsLeaving, AddsReclaimed, accepted-accepts, accepted-leaves, accepted-reclaims, send-note, migrate-note, accepts_add_their_notes, leaves_add_their_notes, reclaims_add_their_notes, NodeOrder, WalletOrder, with_record, on_accepted, wallet_does, Small, AcceptEnds, Refused, Known, New, accept_ends}
+use Rattle.world_laws.proofs.NodeWords.{Accepted, WalletRefusal, kept_of, links_handed, IsReadBack, AcceptsNote, note_text, notes_of, accepted_of, Note, WalletRecords, WalletEffect, who, accept_effect, send_effect, leave_effect, reclaim_effect, migrate_effect, coin_state, AddsNote, AddsAccepted, AddsLeaving, AddsReclaimed, accepted-accepts, accepted-leaves, accepted-reclaims, send-note, migrate-note, accepts_add_their_notes, leaves_add_their_notes, reclaims_add_their_notes, NodeOrder, WalletOrder, with_record, on_accepted, wallet_does, Small, AcceptEnds, Refused, Known, New, accept_ends}
 use Rattle.world_laws.proofs.WorldWords.{Event, Accepts, Node, World, Wallet, wallet_of, is_wallet_role, Deed, as_deed, node_does, bundle_read, event_of, OrderEnds, Accepting, wallet_told, order-ends, Said, told, words, KeptWallet, Feeds, IsFitOrder, wallet-alone, has_order}
 use Rattle.world_laws.proofs.GuardsShown.{AreShown, shown-more, handed-shown}
 
@@ -99,8 +99,7 @@ module _ (dig : List ℕ → List ℕ) (tag : List ℕ) (log : List RootCall) (f
   if-some (Some body) more is = more body is
 
   if-none : (P : List ℕ → Type 0) (note : Option (List ℕ)) → note ≡ None → IfSome note P
-  if-none P None none = tt
-  if-none P (Some body) none = absurd (cc none)
+  if-none P note none = grind (arith, common_steps)
 
   other-shown : (order : WalletOrder) → is_accept (NodeOrder.Wallet order) ≡ false
       → IfSome (wallet_does dig log wallet order).note
@@ -121,14 +120,12 @@ module _ (dig : List ℕ → List ℕ) (tag : List ℕ) (log : List RootCall) (f
   wallet-shown (WalletOrder.Leave coin) fit =
       other-shown (WalletOrder.Leave coin) refl
       (if-some {P = AddsLeaving dig wallet log coin} (leave_effect dig wallet log coin).note
-      (λ body adds. ap (λ (notes : List Note). accepted_of notes) adds.2.1
-      ∙ accepted-leaves coin adds.0 (notes_of dig wallet.notes))
+      (grind (arith, common_steps, accepted-leaves))
       (leaves_add_their_notes dig wallet log coin kept.is (words dig s log wallet kept few) fit))
   wallet-shown (WalletOrder.Reclaim bytes) fit =
       other-shown (WalletOrder.Reclaim bytes) refl
       (if-some {P = AddsReclaimed dig wallet log bytes} (reclaim_effect dig wallet log bytes).note
-      (λ body adds. ap (λ (notes : List Note). accepted_of notes) adds.3.1
-      ∙ accepted-reclaims adds.0.coin adds.0.tip adds.0.q (notes_of dig wallet.notes))
+      (grind (arith, common_steps, accepted-reclaims))
       (reclaims_add_their_notes dig wallet log bytes kept.is fit.are (words dig s log wallet kept few)))
   wallet-shown WalletOrder.Migrate fit =
       other-shown WalletOrder.Migrate refl (if-none _ (migrate_effect wallet).note (migrate-note wallet))

@@ -1,7 +1,7 @@
 -- What was before an event: no exhibit, and the coin held by the same owner, or no exit of it stands after the event.
-use Rattle.world_laws.proofs.Basics.{◌≡◌, ◌≢◌, ◌⊎◌, ℕ, ◌+◌, ◌==◌, ◌&&◌, true, false, if◌then◌else◌, List, [], ◌∷◌, ◌++◌, Some, inl, inr, refl, sym, ap, ◌∙◌, subst, arith, filter, rules, list_any, flat_map, cases_eq, ne_eqb, eq-eqb, eqb-true, and_parts, or_parts, or_cases, or_left, or_right, true≢false, false≢true, false_from_ne_true, common_steps, some_same, none_some, any-some, append-assoc, has-kept}
-use Rattle.world_laws.proofs.CoinWords.{Owner, Body, RawOpening, RootCall, Deposit, Finish, CoinView, ExitView, coins, coin_at, new_coin, Exit, exits, exit_at, exit_view, exits_of, is_withdrawn, has_no_open_challenge, Tests, Rules, tests_by, coin_at-le, Has}
-use Rattle.world_laws.proofs.WorldWords.{IsDigest, Event, Declares, Joins, Accepts, Binds, TakesBack, log_of, wallet_owner, accepted, bound_by, taken_back, not_taken, leaf_at, is_sent_from, is_bundle, openings_of, seen, strings_in, strings_of, has_clash, forges_one, is_forged, was_deposited, deposits_by, IsLegal}
+use Rattle.world_laws.proofs.Basics.{◌≡◌, ◌≢◌, ◌⊎◌, ℕ, ◌+◌, ◌==◌, true, false, if◌then◌else◌, List, [], ◌∷◌, ◌++◌, Some, inl, inr, refl, sym, ap, ◌∙◌, subst, arith, filter, rules, ◌&&◌, list_any, flat_map, cases_eq, ne_eqb, eq-eqb, eqb-true, and_parts, or_parts, or_cases, or_left, or_right, true≢false, false≢true, false_from_ne_true, common_steps, some_same, none_some, any-some, append-assoc, has-kept}
+use Rattle.world_laws.proofs.CoinWords.{Owner, Body, RawOpening, RootCall, Deposit, Finish, CoinView, ExitView, coins, coin_at, new_coin, Exit, exits, exit_view, exits_of, is_withdrawn, exit_at, has_no_open_challenge, Tests, Rules, tests_by, coin_at-le, Has}
+use Rattle.world_laws.proofs.WorldWords.{IsDigest, Event, Declares, Joins, Accepts, Binds, TakesBack, log_of, wallet_owner, accepted, bound_by, taken_back, not_taken, leaf_at, is_sent_from, is_bundle, openings_of, seen, strings_of, has_clash, forges_one, is_forged, strings_in, was_deposited, deposits_by, IsLegal}
 use Rattle.world_laws.proofs.HeldCoins.{one_leaf, all_shown, seen-grow, names, away-untake, away-unbind, parted, back-more, Holding, is_noted, owner-is, held_at}
 use Rattle.world_laws.proofs.DueCalls.{has-mapped}
 use Rattle.world_laws.proofs.Watched.{AtEvent}
@@ -53,15 +53,10 @@ deposit-caller [] c made is = absurd (none_some made is)
 deposit-caller (Deposit account amount key ∷ log) c made is =
     (elim (c == coins log + 1) as (λ b. (if b then Some (new_coin log account amount key) else coin_at log c)
     ≡ Some made → list_any (deposits_by made.owner.account) (Deposit account amount key ∷ log) ≡ true) [
-      | true ↦ λ same. or_left (account == made.owner.account) (list_any (deposits_by made.owner.account) log)
-          (eq-eqb account made.owner.account
-          (ap (λ (x : CoinView). x.owner.account) (some_same (new_coin log account amount key) made same)))
-      | false ↦ λ later. or_right (account == made.owner.account) (list_any (deposits_by made.owner.account) log)
-          (deposit-caller log c made later)
+      | true ↦ grind (arith, common_steps, or_left, eq-eqb, some_same)
+      | false ↦ λ later. grind (arith, common_steps, deposit-caller log c made later, or_right)
     ]) is
-deposit-caller (call ∷ log) c made is =
-    or_right (deposits_by made.owner.account call) (list_any (deposits_by made.owner.account) log)
-    (deposit-caller log c made is)
+deposit-caller (call ∷ log) c made is = grind (arith, common_steps, deposit-caller log c made is, or_right)
 
 abbrev pub NoneStands : List RootCall → ℕ → Type 0
 NoneStands log c = (x : Exit) → Has (exits log) x → x.coin ≡ c → ⊥

@@ -1,6 +1,6 @@
 -- Two accepted openings of one block show one leaf, where no two of the strings that they digest clash.
 use Rattle.world_laws.proofs.Basics.{◌≡◌, ◌≢◌, ℕ, true, false, List, [], ◌∷◌, Some, inl, inr, sym, ap, ◌∙◌, subst, arith, rules, flat_map, bytes_eq, cases_Bool, and_from, or_parts, true≢false, false≢true, not_from_false, false_from_ne_true, bytes_eq-Decides, common_steps, some_same}
-use Rattle.world_laws.proofs.CoinWords.{proof_path, hashed_strings, is_opening, RawOpening, Opening, RootCall, transfer_in, leaf-shown, Tests, Rules, tests_by, root_at, leaf_of_opening, transfer_of, Has, has-left, has-right, any-has, contains-has}
+use Rattle.world_laws.proofs.CoinWords.{proof_path, hashed_strings, is_opening, RawOpening, Opening, RootCall, leaf-shown, Tests, Rules, tests_by, root_at, leaf_of_opening, transfer_of, Has, has-left, has-right, any-has, contains-has, transfer_in}
 use Rattle.world_laws.proofs.WorldWords.{IsDigest, strings_in, strings_of, do_clash, has_clash}
 use Rattle.sparse_merkle.proofs.OpeningLaws.{HasClash-openings}
 

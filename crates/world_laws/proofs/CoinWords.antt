@@ -11,13 +11,13 @@ pub use Rattle.plasma_tx.specs.declared.body.Body.{Body}
 pub use Rattle.plasma_tx.specs.declared.opening.RawOpening.{RawOpening}
 pub use Rattle.plasma_tx.specs.declared.signed_tx.SignedTx.{SignedTx}
 pub use Rattle.plasma_tx.specs.declared.call.RootCall.{RootCall}
-pub use Rattle.plasma_tx.specs.declared.call.RootCall.TheVariants.{Deposit, Commit, Fund, Tick, StartSpend, After, Respond, Finish, Between, Before, StartDeposit}
 pub use Rattle.plasma_tx.specs.Transfer.{may_stand_in}
 unfoldable pub use Rattle.plasma_tx.specs.Transfer.{is_signed_by, transfer_in, recipient_in}
 pub use Rattle.plasma_tx.specs.Views.{new_coin, Exit, exit_view, has_no_open_challenge, Challenge, challenge_at, challenge_view, block_of, is_exit, without_exit, with_challenge, with_answer, new_challenge, with_exit_changed, with_answer_at, spend_exit}
 unfoldable pub use Rattle.plasma_tx.specs.Views.{blocks, coin_at, is_withdrawn, now, coins, responses, exits, exit_at, exits_of, block_at}
 pub use Rattle.plasma_tx.specs.Shown.{Tests, Rules, root_at, tests_by, root_in, rules_of, shown_owner}
 unfoldable pub use Rattle.plasma_tx.specs.Shown.{shown_tx}
+pub use Rattle.plasma_tx.specs.declared.call.RootCall.TheVariants.{Deposit, Commit, Fund, Tick, StartSpend, After, Respond, Finish, Between, Before, StartDeposit}
 pub use Rattle.plasma_tx.specs.declared.links.Links.{Links}
 pub use Rattle.plasma_tx.specs.declared.owner.Owner.{Owner}
 pub use Rattle.plasma_tx.specs.declared.views.CoinView.{CoinView}
@@ -25,13 +25,13 @@ pub use Rattle.plasma_tx.specs.declared.call.Shown.TheVariants.{Deposit as AtDep
 pub use Rattle.plasma_tx.specs.Laws.{is_respond, is_start, is_end, is_challenged_at}
 pub use Rattle.plasma_tx.specs.declared.views.ExitView.{ExitView}
 pub use Rattle.plasma_tx.specs.Links.{last_owner_of, tip_of, last_spend}
-pub use Rattle.plasma_tx.specs.Spelling.{IsOwner, IsBody, body_at_start, number_text, AreBytes, body_length, with_signature}
+pub use Rattle.plasma_tx.specs.Spelling.{IsOwner, IsBody, body_at_start, AreBytes, body_length, with_signature}
 unfoldable pub use Rattle.plasma_tx.specs.Spelling.{signed_in, owner_text, body_text, owner_in, body_in, signed_text}
 pub use Rattle.plasma_tx.specs.declared.opening.Opening.{Opening}
 pub use Rattle.plasma_tx.specs.declared.links.Link.{Link}
 pub use Rattle.plasma_tx.specs.declared.rules.TheConstants.{CHALLENGE_WINDOW, RESPONSE_WINDOW, EXIT_PERIOD, EXIT_BOND}
 pub use Rattle.plasma_tx.specs.declared.call.Shown.{Shown}
-pub use Rattle.plasma_tx.specs.Table.{is_accepted, decided, finish_causes, finish_effect, is_payable, where_exit, Cause, too_poor, is_committed_after, is_parent_of, may_exit_at, start_spend_causes, where_coin}
+pub use Rattle.plasma_tx.specs.Table.{is_accepted, decided, finish_causes, finish_effect, is_payable, where_exit, Cause, too_poor, is_committed_after, is_parent_of}
 unfoldable pub use Rattle.plasma_tx.specs.Table.{answer_to, log_after, IsLegal as IsLegalLog}
 pub use Rattle.plasma_tx.specs.Openings.{leaf_length}
 unfoldable pub use Rattle.plasma_tx.specs.Openings.{leaf_in, opening_in}
@@ -50,10 +50,9 @@ pub use Rattle.plasma_tx.proofs.Each.{all-weaker, each-exit, all-append, all-map
 pub use Rattle.coin_history.specs.declared.bundle.Bundle.{Bundle}
 pub use Rattle.coin_history.specs.History.{leaf_of_opening, transfer_of, IsHistory, links_of, is_absent, opens_block, IsAbsent, is_committed, link_of}
 unfoldable pub use Rattle.coin_history.specs.History.{committed_blocks, AreLinked, links_in}
-pub use Rattle.coin_history.specs.Bundles.{IsBundle, Items, AreRising, length_at, items_in, bundle_of, length_text, item_text}
+pub use Rattle.coin_history.specs.Bundles.{IsBundle, Items, AreRising, length_at, items_in, bundle_of, item_text}
 unfoldable pub use Rattle.coin_history.specs.Bundles.{bundle_in, bundle_text}
 pub use Rattle.coin_history.specs.Checking.{history_of, is_asked, opening_at, absence_of}
-pub use Rattle.coin_history.specs.declared.refusal.HistoryRefusal.{HistoryRefusal}
 pub use Rattle.coin_history.proofs.HistoryGrow.{root_at-grown, histories_stay, committed-le, coin_at-grown}
 pub use Rattle.coin_history.proofs.BundleLaws.{bundle_in-text, items_in-ok}
 pub use Rattle.coin_history.proofs.HistoryFound.{histories_are_found}

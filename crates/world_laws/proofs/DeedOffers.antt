@@ -1,8 +1,8 @@
 -- What orders offer: challenges and answers by a watch, a wallet's own start by a leave, the operator's commit by a
 -- seal. None of it deposits, and a start is by the account of the wallet that offers it.
-use Rattle.world_laws.proofs.Basics.{◌≡◌, ℕ, true, false, List, [], Option, Some, None, Ok, Err, inl, inr, refl, sym, ◌∙◌, subst, arith, Result, range_with_len, option_map_or, eqb-true, false≢true, common_steps}
-use Rattle.world_laws.proofs.CoinWords.{Link, Links, RootCall, ExitView, coins, exits_of, CoinState, Nothing, Sending, Leaving, Held, due_for, due_of, Has, has-flat_map, IsDue, due_for-due}
-use Rattle.world_laws.proofs.NodeWords.{WalletRefusal, kept_links, owner_of, WalletRecords, who, coin_state, links_at, start_by, exit_start, leave_effect, due_in, wallet_watch, due_for_kept, guards_in, who_is_watcher, watcher_watch, NodeOrder}
+use Rattle.world_laws.proofs.Basics.{◌≡◌, ℕ, true, false, List, [], Option, Ok, Err, inl, inr, refl, sym, ◌∙◌, subst, arith, Some, None, Result, option_map_or, eqb-true, false≢true, common_steps}
+use Rattle.world_laws.proofs.CoinWords.{Link, Links, RootCall, ExitView, exits_of, CoinState, Nothing, Sending, Leaving, Held, due_for, due_of, Has, has-flat_map, IsDue, due_for-due}
+use Rattle.world_laws.proofs.NodeWords.{WalletRefusal, owner_of, WalletRecords, who, links_at, start_by, exit_start, leave_effect, due_in, wallet_watch, watcher_watch, NodeOrder}
 use Rattle.world_laws.proofs.WorldWords.{Node, World, is_wallet_role, is_operator_role, wallet_of, owner_of_node, Event, OrderEnds, Leaving, Watching, GuardWatching, Sealing, order-ends, Place, deed_at, has_order, MayOrder, starts_by, deposits_by}
 use Rattle.world_laws.proofs.Identities.{IsOffer}
 use Rattle.world_laws.proofs.OperatorActs.{commits_root}
@@ -34,10 +34,7 @@ linked-quiet log account (Some links) call h = due-quiet log account links call 
 wallet-quiet : (dig : List ℕ → List ℕ) (wallet : WalletRecords) (log : List RootCall) (call : RootCall)
     → Has (wallet_watch dig wallet log) call → IsQuiet call
 unfolding wallet_watch
-wallet-quiet dig wallet log call h =
-    let found = has-flat_map (λ coin. due_in dig wallet log coin (coin_state dig wallet log coin))
-    (range_with_len 1 (coins log)) call h in
-    by found.0 (coin_state dig wallet log found.0) found.2
+wallet-quiet dig wallet log call h = grind (arith, common_steps, has-flat_map, by)
   where
     by : (coin : ℕ) (state : CoinState) → Has (due_in dig wallet log coin state) call → IsQuiet call
     by coin Nothing h = absurd h
@@ -48,10 +45,7 @@ wallet-quiet dig wallet log call h =
 watcher-quiet : (dig : List ℕ → List ℕ) (notes : List (List ℕ)) (log : List RootCall) (call : RootCall)
     → Has (watcher_watch dig notes log) call → IsQuiet call
 unfolding watcher_watch
-watcher-quiet dig notes log call h =
-    let found = has-flat_map (due_for_kept (who_is_watcher notes).tag log (who_is_watcher notes).account)
-    (guards_in dig notes) call h in
-    linked-quiet log (who_is_watcher notes).account (kept_links (who_is_watcher notes).tag log found.0) call found.2
+watcher-quiet dig notes log call h = grind (arith, common_steps, has-flat_map, linked-quiet)
 
 -- ---- starts
 

@@ -1,9 +1,8 @@
 -- What is due for the exits of a coin that a node guards, and so is among the calls that it offers.
-use Rattle.world_laws.proofs.Basics.{◌≡◌, ℕ, ◌+◌, ◌<◌, ◌≤◌, ◌==◌, ◌&&◌, not, Bool, true, false, if◌then◌else◌, List, [], ◌∷◌, map, Option, Some, None, inl, inr, refl, sym, ap, ◌∙◌, subst, arith, filter, rules, is_some, is_none, nat_lt, unwrap_or, option_map, option_or, flat_map, eq-eqb, lt-ltb, le-ltb, lt-leb, and_from, not_from_false, false≢true, has-in-flat_map, has-kept, none-any}
+use Rattle.world_laws.proofs.Basics.{◌≡◌, ℕ, ◌+◌, ◌<◌, ◌≤◌, ◌==◌, ◌&&◌, not, Bool, true, false, if◌then◌else◌, List, [], ◌∷◌, map, Option, Some, None, inl, inr, refl, sym, ap, ◌∙◌, subst, arith, filter, rules, is_some, is_none, nat_lt, unwrap_or, option_map, option_or, flat_map, eq-eqb, lt-ltb, le-ltb, lt-leb, and_from, not_from_false, false≢true, common_steps, has-in-flat_map, has-kept, none-any}
 use Rattle.world_laws.proofs.CoinWords.{Owner, Link, Links, RootCall, After, Between, Before, Respond, CoinView, tip_of, now, Challenge, Exit, exits, challenge_at, challenge_view, exit_view, exits_of, block_of, CHALLENGE_WINDOW, RESPONSE_WINDOW, Tests, Rules, link_after, tip_shown, within, answer, due_for, due_of, Has, any-map}
 use Rattle.world_laws.proofs.WorldWords.{Event, log_of, seen}
 use Rattle.world_laws.proofs.HeldCoins.{IsShownAt, IsGoodGuard}
-use Rattle.plasma_tx.specs.declared.views.ChallengeView.{ChallengeView}
 use Rattle.plasma_tx.specs.ChallengeLists.{is_challenged}
 
 -- ---- members
@@ -116,10 +115,7 @@ module _ (tests : Tests) (rules : Rules) (events : List Event) (c : ℕ) (made :
 
   unchallenged : is_none (challenge_at e x.challenges) ≡ true
       → is_challenged (tip_of g.links) (map challenge_view x.challenges) ≡ false
-  unchallenged none =
-      ap (λ n. is_challenged n (map challenge_view x.challenges)) g.good.tip_is
-      ∙ any-map challenge_view (λ (v : ChallengeView). v.block == e) x.challenges
-      ∙ none-any (λ (ch : Challenge). ch.block == e) x.challenges none
+  unchallenged none = grind (arith, common_steps, any-map, none-any)
 
   -- what each due call gives, where one is due: in the window of an exit before the tip, of one of a later block with a
   -- parent before the tip, and of one with a parent after the tip that isn't challenged there

@@ -1,8 +1,8 @@
 -- A call that a watch offers is accepted at once, where there is money for a Before.
-use Rattle.world_laws.proofs.Basics.{◌≡◌, ℕ, true, false, if◌then◌else◌, List, [], ◌∷◌, ◌++◌, Option, Some, None, refl, sym, ap, ◌∙◌, subst, arith, rules, option_map_or, common_steps}
+use Rattle.world_laws.proofs.Basics.{◌≡◌, ℕ, true, false, if◌then◌else◌, List, [], ◌∷◌, ◌++◌, Option, Some, None, refl, sym, ap, ◌∙◌, subst, arith, rules, common_steps}
 use Rattle.world_laws.proofs.CoinWords.{RawOpening, Owner, Links, RootCall, CoinView, ExitView, coin_at, exits_of, Tests, Rules, tests_by, root_at, Bundle, committed_blocks, links_of, AreLinked, IsHistory, tip-is, tip_from, none-linked, due_for, due_of, HaveOneLeaf, is_poor_before, Has, has-cases, has-contains, contains-has, has-flat_map, IsDueFor, due_for-due, log_seen}
 use Rattle.world_laws.proofs.NodeWords.{kept_links, due_for_kept}
-use Rattle.world_laws.proofs.WorldWords.{Event, Watches, log_of, coin_of_call, wallet_owner, accepted, guarded_by, is_command_of, offered, seen, collides, is_watch, is_joined, lacks_bond, fresh_offers, Taken, Bare, ShowsGuard, IsLegal, LegalDueCallsAreTaken}
+use Rattle.world_laws.proofs.WorldWords.{Event, Watches, log_of, coin_of_call, accepted, guarded_by, is_command_of, offered, wallet_owner, seen, collides, is_watch, is_joined, lacks_bond, fresh_offers, Taken, Bare, ShowsGuard, IsLegal, LegalDueCallsAreTaken, fresh_offers}
 use Rattle.world_laws.proofs.HeldCoins.{HasOneLeaf, one_leaf, legal-log, log-seen, is_noted, IsKept, is_kept, kept-grow, deposited-coin}
 use Rattle.watch_duty.proofs.Accepts.{due_calls_are_accepted}
 use Rattle.world_laws.proofs.Nodes.{same-node}
@@ -110,8 +110,7 @@ due_calls_are_taken dig rules events n call digest legal offers none rich =
     let kept : kept_links rules.tag log f.bundle ≡ Some f.kept.links =
     kept-some rules log f.bundle h.made h.coin ∙ ap (λ (l : Links). Some l) (sym h.shown) in
     let due : Has (due_of log f.account (record { links = f.kept.links })) call =
-    subst (λ (k : Option Links). Has (option_map_or
-    (λ (links : Links). due_of log f.account (record { links = links })) k []) call) kept f.due in
+    grind (arith, common_steps) in
     let coin : coin_of_call call ≡ f.bundle.coin =
     due_of-coin log f.account f.kept.links call due ∙ ap (λ (l : Links). l.coin) h.shown in
     let one = one_leaf dig digest log (coin_of_call call) (seen events (coin_of_call call)) none in

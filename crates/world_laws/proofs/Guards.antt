@@ -1,6 +1,6 @@
 -- Who guards a held coin: the holder, and each watcher that keeps a guard at its tip.
 use Rattle.world_laws.proofs.Basics.{◌≡◌, ℕ, ◌==◌, true, false, if◌then◌else◌, List, [], ◌∷◌, Option, Some, None, inl, inr, refl, sym, ap, ◌∙◌, subst, arith, rules, list_any, eqb-true, and_from, or_cases, or_left, or_right, not_from_false, common_steps, some_same, any-some}
-use Rattle.world_laws.proofs.CoinWords.{Owner, RawOpening, Links, RootCall, CoinView, ExitView, tip_of, last_owner_of, coin_at, exits_of, block_of, Tests, Rules, Bundle, links_in, links_of, IsHistory, tip-is, tip_from, none-linked, tip_shown, due_for, due_of, Has, contains-has, has-contains, has-flat_map, has-filter, IsDueFor, due_for-due}
+use Rattle.world_laws.proofs.CoinWords.{Owner, RawOpening, Links, RootCall, CoinView, ExitView, tip_of, last_owner_of, coin_at, block_of, exits_of, Tests, Rules, Bundle, links_in, links_of, IsHistory, tip-is, tip_from, none-linked, tip_shown, due_of, due_for, Has, contains-has, has-contains, has-flat_map, has-filter, IsDueFor, due_for-due}
 use Rattle.world_laws.proofs.NodeWords.{chain_of, kept_links}
 use Rattle.world_laws.proofs.WorldWords.{Event, Watches, Guards, Releases, log_of, coin_of_call, wallet_owner, accepted, is_bundle, guarded_by, is_command_of, seen, is_forged, was_deposited, holds, Taken, Bare, IsGuarding, ShowsGuard, IsLegal, is_guardian}
 use Rattle.world_laws.proofs.HeldCoins.{links-at, shown-tip, HasOneLeaf, SignsBy, Holding, is_noted, is_kept, known-from, IsGoodGuard, good_guard, held_top, deposited-coin, empty-walk}

@@ -1,17 +1,16 @@
 -- What a watcher's records keep is shown by a bundle that events say it guards: one of the same coin and tip, with the
 -- same links.
-use Rattle.world_laws.proofs.Basics.{◌≡◌, ◌⊎◌, ℕ, not, Bool, true, false, if◌then◌else◌, ◌^◌, ◌<◌, List, [], ◌∷◌, filter, Option, Some, None, Ok, Err, inl, inr, refl, sym, ap, ◌∙◌, subst, lit<, arith, Result, IfSome, list_any, false≢true, common_steps, has-kept}
-use Rattle.world_laws.proofs.CoinWords.{Links, RootCall, tip_of, Bundle, HistoryRefusal, links_in, Has, has-cases, has-filter}
-use Rattle.world_laws.proofs.NodeWords.{Effect, first_cause, only, Accepted, chain_of, kept_of, links_handed, IsReadBack, Guarded, Released, who_is, is_of, with_guard, guards_of, guards_in, guard_causes, guard_by, guard_effect, release_effect, AddsGuard, NodeOrder, with_record, on_guarded, on_released, watcher_does, Small, small-nil}
+use Rattle.world_laws.proofs.Basics.{◌≡◌, ◌⊎◌, ℕ, not, Bool, true, false, if◌then◌else◌, ◌^◌, ◌<◌, List, [], ◌∷◌, filter, Option, Some, Ok, Err, inl, inr, sym, ◌∙◌, subst, lit<, arith, Result, IfSome, list_any, false≢true, common_steps, has-kept}
+use Rattle.world_laws.proofs.CoinWords.{Links, RootCall, Bundle, links_in, Has, has-cases, has-filter}
+use Rattle.world_laws.proofs.NodeWords.{Effect, only, Accepted, chain_of, kept_of, links_handed, IsReadBack, Guarded, Released, who_is, is_of, with_guard, guards_of, guards_in, guard_effect, release_effect, AddsGuard, NodeOrder, with_record, on_guarded, on_released, watcher_does, Small, small-nil}
 use Rattle.world_laws.proofs.WorldWords.{Event, Guards, Releases, is_bundle, Node, World, is_watcher_role, node_does, bundle_read, event_of, watcher_told, Deed, as_deed, Said, told, IsFitOrder, watcher-alone, has_order}
-use Rattle.node_journal.specs.Effect.{unless}
 use Rattle.node_rules.specs.declared.refusal.WatcherRefusal.{WatcherRefusal}
 use Rattle.node_rules.specs.declared.refusal.WatcherRefusal.TheVariants.{NoGuard}
 use Rattle.node_rules.specs.Watcher.{note_text}
 use Rattle.node_rules.specs.WatcherLaws.{AddsNote}
 use Rattle.node_rules.proofs.WatcherRole.{commands_add_their_notes}
 use Rattle.node_replies.specs.declared.order.WatcherOrder.{WatcherOrder}
-use Rattle.world_rules.proofs.KeptWatcher.{KeptWatcher}
+use Rattle.world_rules.proofs.KeptWatcher.{KeptWatcher, GuardEnds, Refused, Known, New, guard_ends}
 use Rattle.world_laws.proofs.Handed.{handed-history}
 
 -- a bundle shows a kept coin: it is of the coin and the tip, and has the links
@@ -50,25 +49,12 @@ pub handed-shown : (dig : List ℕ → List ℕ) (tag : List ℕ) (log : List Ro
     (bundles : List Bundle) → links_handed dig tag log bytes ≡ Ok links → IsReadBack dig tag log links
     → IsShown tag (bundle_read bytes ∷ bundles) (kept_of links)
 handed-shown dig tag log bytes links bundles handed back =
-    let history = handed-history dig (chain_of tag) log bytes links handed in record {
-      bundle = bundle_read bytes;
-      has = inl refl;
-      coin = ap (λ (l : Links). l.coin) (sym history.shown);
-      tip = sym history.tip;
-      links = ap (λ (l : Links). l.spends) (sym history.shown) ∙ sym back.shown;
-    }
+    let history = handed-history dig (chain_of tag) log bytes links handed in grind (arith, common_steps)
 
 -- the release of a guard that is there, or isn't
 abbrev releasing : ℕ → ℕ → Bool → Effect (Result (Unit {0}) WatcherRefusal)
 releasing c e has =
     if has then record { answer = Ok tt; note = Some (note_text (Released c e)) } else only (Err NoGuard)
-
--- the guard of links that aren't refused, which may be known
-abbrev guarding : Links → Bool → Effect (Result Accepted WatcherRefusal)
-guarding links known = record {
-  answer = Ok (record { coin = links.coin; tip = tip_of links });
-  note = if known then None else Some (note_text (Guarded (kept_of links)));
-}
 
 module _ (dig : List ℕ → List ℕ) (tag : List ℕ) (s : Said) (log : List RootCall) (records : List (List ℕ))
     (kept : KeptWatcher dig s records) (tag_is : (who_is records).tag ≡ tag)
@@ -97,28 +83,21 @@ module _ (dig : List ℕ → List ℕ) (tag : List ℕ) (s : Said) (log : List R
   IsGuarded n bytes effect = IsAfter (watcher_told n (WatcherOrder.Guard bytes) on_guarded effect.answer) effect.note
 
   pub guard-shown : (n : ℕ) (bytes : List ℕ) → Small bytes → IsGuarded n bytes (guard_effect dig records log bytes)
-  unfolding guard_effect event_of
-  guard-shown n bytes small =
-      at (links_handed dig (who_is records).tag log bytes) refl
-      (commands_add_their_notes dig records log bytes 0 0 kept.is small.are (lit< tt) (lit< tt)).0
+  unfolding event_of
+  guard-shown n bytes small = by (guard_ends dig records log bytes)
     where
-      by : (links : Links) → links_handed dig (who_is records).tag log bytes ≡ Ok links
-          → (failed : Option WatcherRefusal) (known : Bool)
-          → IfSome (unless failed (guarding links known)).note (AddsGuard dig records log bytes)
-          → IsGuarded n bytes (unless failed (guarding links known))
-      by links handed (Some why) known adds = shown
-      by links handed None true adds = shown-more tag (bundle_read bytes) s.guarded (guards_in dig records) shown
-      by links handed None false adds =
-          guard-new n bytes (note_text (Guarded (kept_of links))) adds.0 adds.1 adds.2
-          adds.3
-
-      at : (handed : Result Links HistoryRefusal) → links_handed dig (who_is records).tag log bytes ≡ handed
-          → IfSome (guard_by log (guards_in dig records) handed).note (AddsGuard dig records log bytes)
-          → IsGuarded n bytes (guard_by log (guards_in dig records) handed)
-      at (Err why) handed adds = shown
-      at (Ok links) handed adds =
-          by links handed (first_cause (guard_causes log links))
-          (list_any (is_of links.coin (tip_of links)) (guards_in dig records)) adds
+      by : GuardEnds dig records log bytes (guard_effect dig records log bytes)
+          → IsGuarded n bytes (guard_effect dig records log bytes)
+      by (Refused why is) = subst (IsGuarded n bytes) (sym is) shown
+      by (Known links handed known is) =
+          subst (IsGuarded n bytes) (sym is)
+          (shown-more tag (bundle_read bytes) s.guarded (guards_in dig records) shown)
+      by (New links handed is) =
+          let text = note_text (Guarded (kept_of links)) in
+          let adds : AddsGuard dig records log bytes text =
+          subst (λ e. IfSome e.note (AddsGuard dig records log bytes)) is
+          (commands_add_their_notes dig records log bytes 0 0 kept.is small.are (lit< tt) (lit< tt)).0 in
+          subst (IsGuarded n bytes) (sym is) (guard-new n bytes text adds.0 adds.1 adds.2 adds.3)
 
   release-new : (n c e : ℕ) (body : List ℕ) → AddsNote dig records (Released c e) body
       → IsAfter (Releases n c e) (Some body)

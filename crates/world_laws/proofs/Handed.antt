@@ -1,8 +1,9 @@
 -- A bundle that is handed in and passes is a history under the chain's rules, whatever its bytes are.
 use Rattle.world_laws.proofs.Basics.{◌≡◌, ℕ, ◌≤◌, List, [], length, Ok, Err, inl, inr, refl, sym, ap, ◌∙◌, subst, arith, rules, Result, unwrap_or, result_ok, cases_lt, lt-ltb, le-ltb}
-use Rattle.world_laws.proofs.CoinWords.{Links, RootCall, tests_by, Rules, Bundle, HistoryRefusal, Items, AreRising, length_at, items_in, bundle_of, bundle_in, IsHistory, items_in-ok, tagged-same, histories_are_found}
+use Rattle.world_laws.proofs.CoinWords.{Links, RootCall, tests_by, Rules, Bundle, Items, AreRising, length_at, items_in, bundle_of, bundle_in, IsHistory, items_in-ok, tagged-same, histories_are_found}
 use Rattle.world_laws.proofs.NodeWords.{links_handed}
 use Rattle.world_laws.proofs.WorldWords.{bundle_read}
+use Rattle.coin_history.specs.declared.refusal.HistoryRefusal.{HistoryRefusal}
 use Rattle.coin_history.specs.declared.refusal.HistoryRefusal.TheVariants.{BadBundle}
 use Rattle.node_rules.proofs.KeptTexts.{handed-bundle}
 

@@ -1,7 +1,7 @@
 -- No event harms a held coin.
-use Rattle.world_laws.proofs.Basics.{◌≡◌, ℕ, ◌+◌, ◌≤◌, ◌==◌, ◌&&◌, not, Bool, true, false, List, [], ◌∷◌, Option, Some, None, inl, refl, sym, ◌∙◌, subst, arith, rules, is_none, nat_lt, nat_le, AllByRecursion, list_all, cases_Bool, eqb-true, le-ltb, ltb-false, leb-true, and_parts, and_from, not-true, not_from_false, true≢false, false_from_ne_true, common_steps, all-from, found-has, challenge-has, all_answered-from, passes-has}
-use Rattle.world_laws.proofs.CoinWords.{RawOpening, RootCall, After, Between, Finish, Answer, now, Challenge, Exit, exits, exit_at, challenge_at, is_withdrawn, EXIT_PERIOD, Tests, Rules, decided, finish_causes, finish_effect, is_payable, where_exit, answer_to, is_accepted, CancelsAfter, CancelsBetween, is_paid, accepted_calls_show, openings_of_call, Has, all-has, Owner}
-use Rattle.world_laws.proofs.WorldWords.{Event, log_of, wallet_owner, bound_by, seen, forges_one, is_mine, is_own, finish_harms, call_harms, IsLegal, IsWatched, IfOf, AllWatched}
+use Rattle.world_laws.proofs.Basics.{◌≡◌, ℕ, ◌+◌, ◌==◌, ◌&&◌, not, Bool, true, false, List, [], ◌∷◌, Option, Some, None, inl, refl, ◌∙◌, subst, arith, rules, is_none, nat_lt, nat_le, AllByRecursion, list_all, cases_Bool, eqb-true, le-ltb, ltb-false, leb-true, and_parts, and_from, not-true, not_from_false, true≢false, false_from_ne_true, common_steps, all-from, found-has, challenge-has, all_answered-from, passes-has}
+use Rattle.world_laws.proofs.CoinWords.{RawOpening, RootCall, After, Between, Finish, Answer, now, Challenge, Exit, exits, exit_at, challenge_at, EXIT_PERIOD, Tests, Rules, decided, finish_causes, finish_effect, is_payable, where_exit, answer_to, is_accepted, CancelsAfter, CancelsBetween, is_paid, accepted_calls_show, openings_of_call, Has, all-has, Owner}
+use Rattle.world_laws.proofs.WorldWords.{Event, log_of, wallet_owner, bound_by, seen, forges_one, is_mine, is_own, finish_harms, call_harms, IsLegal, IsWatched, AllWatched, IfOf}
 use Rattle.world_laws.proofs.HeldCoins.{Spent, walk-order, place_of, Deposited, Transferred, IsBegun, OfDeposit, OfSpend, SignsBy, Known, shown-ge, link_in}
 use Rattle.world_laws.proofs.Watched.{IsSpend, is_spend, AtEvent, tip_unspent}
 use Rattle.world_laws.proofs.Steps.{OfHeld, of_held, owner-before, own-openings}
@@ -19,8 +19,7 @@ four-false : (a b d g : Bool) → (a ≡ true → b ≡ true → g ≡ true → 
 four-false a b d g never = grind (arith, common_steps, false_from_ne_true, and_parts)
 
 and-off : (x z : Bool) → (x ≡ true → z ≡ false) → (x && z) ≡ false
-and-off true z h = h refl
-and-off false z h = refl
+and-off x z h = grind (arith, common_steps)
 
 -- no Finish of the coin harms the holder
 abbrev pub FinishesHarmNothing : List Event → ℕ → ℕ → Owner → Type 0
@@ -34,9 +33,7 @@ not-settled e chs open_tip there answered =
     (elim (challenge_at e chs) as (λ o. challenge_at e chs ≡ o → is_none o ≡ false → ⊥) [
       | None ↦ λ is no. true≢false no
       | Some ch ↦ λ is no.
-          let h = challenge-has e chs ch is in
-          true≢false (sym (passes-has (λ (x : Challenge). x.answered) chs ch answered h.0)
-          ∙ all-has (λ (z : Challenge). z.block ≡ e → z.answered ≡ false) chs ch open_tip h.0 h.1)
+          let h = challenge-has e chs ch is in grind (arith, common_steps, true≢false, passes-has, all-has)
     ]) refl there
 
 module _ (tests : Tests) (rules : Rules) (signs : SignsBy tests) (events : List Event) (w c e : ℕ)
@@ -92,9 +89,7 @@ module _ (tests : Tests) (rules : Rules) (signs : SignsBy tests) (events : List 
           let d = shown-ge tests rules log (seen events c) c at.held.made at.one_before is.exit.parent
           is.exit.parent_owner shown in
           let spent : IsSpend tests rules log c spend is.exit.parent is.exit.parent_owner =
-          subst (λ z. IsSpend tests rules log z spend is.exit.parent is.exit.parent_owner) c_is
-          (is_spend tests rules log k spend is.tx is.exit.parent is.exit.parent_owner is.shown is.child is.later
-          is.signed) in
+          grind (arith, common_steps, is_spend) in
           let here = own-openings k c (spend ∷ []) spend c_is (inl refl) in
           let mid : Spent rules c more spend.block spent.tx.body.to = grind (arith) in
           let top : Spent rules c more is.exit.block is.exit.owner = grind (arith) in
@@ -176,15 +171,7 @@ module _ (tests : Tests) (rules : Rules) (signs : SignsBy tests) (events : List 
   -- and another account's never is
   others-unpaid : (k : ℕ) (x : Exit) → IsFinished k x → is_mine at.hold.me x ≡ false
       → is_paid (finish_answer (log_of events) k (Some x)) ≡ true → ⊥
-  others-unpaid k x i other pays =
-      let time : ℕ = now (log_of events) in
-      let parts = and_parts (not (nat_lt time (x.start + EXIT_PERIOD))) (is_payable (log_of events) k x)
-      (sym i.paid ∙ pays) in
-      let over : x.start + EXIT_PERIOD ≤ time = ltb-false _ _ (not-true _ parts.0) in
-      let there = i.watched.in_time other (omega (arith, over)) in
-      not-settled e x.challenges i.watched.open_tip there
-      (and_parts (list_all (λ (ch : Challenge). ch.answered) x.challenges) (not (is_withdrawn (log_of events) k))
-      parts.1).0
+  others-unpaid k x i other pays = grind (arith, common_steps, and_parts, ltb-false, not-true, not-settled)
 
   -- so a finish harms nothing
   pub finish-harmless : FinishesHarmNothing events c e at.hold.me

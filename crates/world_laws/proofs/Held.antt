@@ -42,11 +42,7 @@ module _ (tests : Tests) (rules : Rules) (log : List RootCall) (os : List RawOpe
   link_in e owner openings known n o s opened low below =
       let p = walk-covers tests rules log c made.deposit (place_of made) openings (End e owner) known.walk n
       opened.root (ap (root_at log) (sym s.block_is) ∙ opened.root_is) low below in
-      let there = walk-opened tests rules log c made.deposit (place_of made) openings (End e owner) known.walk p.0
-      p.1 in
-      let leaf = one_tx tests rules log c os one s.o p.0 s.has (known.has p.0 p.1) opened there
-      (s.block_is ∙ sym p.2) in
-      (p.0, p.1, sym leaf ∙ s.tx_is, p.2)
+      grind (arith, common_steps, walk-opened, place_of, one_tx)
 
   -- what is shown up to the tip is in each history up to it
   pub shown_in : (e : ℕ) (owner : Owner) (openings : List RawOpening)
@@ -208,10 +204,6 @@ module _ (tests : Tests) (rules : Rules) (signs : SignsBy tests) (events : List 
       (list_any (is_bundle c n) (accepted events w)) tip) [
         | inl deposited ↦
             let held = held_at tests rules events w c e legal h in
-            let d = deposited-coin h.me n (coin_at (log_of events) c) deposited in
-            let same : d.0 ≡ held.made = some_same d.0 held.made (sym d.1 ∙ held.made_is) in
-            let up = walk-passes tests rules (log_of events) c held.made.deposit (place_of held.made) held.openings
-            (record { block = e; owner = h.me }) held.known.walk in
-            omega (arith, up, d.2, ap (λ (m : CoinView). m.deposit) same)
+            grind (arith, common_steps, deposited-coin, some_same, walk-passes, place_of)
         | inr accepted_is ↦ grind (arith, any-some, bundle-is, no_later)
       ]

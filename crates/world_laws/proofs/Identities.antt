@@ -1,6 +1,6 @@
 -- Who the nodes are, what they offer, and that all of it stays: the first of a node's notes is its identity, whose
 -- tag is the chain's and whose account is the node's; events say who the wallets are, and of no other node.
-use Rattle.world_laws.proofs.Basics.{◌≡◌, ℕ, ◌<◌, ◌^◌, Bool, true, false, if◌then◌else◌, List, [], ◌∷◌, length, Option, Some, None, refl, ap, slice_get, arith, list_any, eq-eqb, common_steps, some_same, none_some}
+use Rattle.world_laws.proofs.Basics.{◌≡◌, ℕ, ◌<◌, ◌^◌, Bool, true, false, if◌then◌else◌, List, [], ◌∷◌, length, Option, Some, None, ap, slice_get, arith, refl, list_any, eq-eqb, common_steps, some_same, none_some}
 use Rattle.world_laws.proofs.CoinWords.{is_supported, Owner, RootCall, Has}
 use Rattle.world_laws.proofs.NodeWords.{WalletIdentity, wallet_text, owner_of, who_is_wallet, IsWalletIdentity, WatcherIdentity, watcher_text, who_is_watcher, IsWatcherIdentity, with_record}
 use Rattle.world_laws.proofs.WorldWords.{Event, Declares, wallet_owner, node_in, is_command_of, Role, Wallet, Watcher, Operator, Node, World, is_wallet_role, owner_of_node, Said, said, is_said_of, said-other, IsOfChain, starts_by, deposits_by}

@@ -2,8 +2,8 @@
 -- log's calls move.
 use Rattle.world_laws.proofs.Basics.{◌≡◌, ℕ, ◌==◌, true, false, if◌then◌else◌, List, [], ◌∷◌, ◌++◌, length, Option, Some, None, inl, inr, refl, sym, ap, ◌∙◌, subst, set, slice_get, le_refl, arith, rules, list_any, and_parts, or_parts, or_left, or_right, not-true, eqb-true, false≢true, slice_get_past, common_steps, some_same, none_some, got-has}
 use Rattle.world_laws.proofs.CoinWords.{RootCall, Rules, tests_by, rules_of, answer_to, is_accepted, log_after, Has}
-use Rattle.world_laws.proofs.NodeWords.{WalletIdentity, wallet_text, who, WatcherIdentity, who_is, watcher_text, NodeOrder}
-use Rattle.world_laws.proofs.WorldWords.{option_map_some, Line, CallForm, Event, Idle, wallet_owner, node_in, is_command_of, Wallet, Watcher, Node, World, is_wallet_role, is_watcher_role, owner_of_node, wallet_of, call_of, is_declared_account, is_caller, may_be_wallet, Deed, new_node, offer_numbered, Run, events_of, begun, Place, NewWallet, NewWatcher, NewRogue, Origin, Plain, Deposits, Raw, Offered, Act, Adds, Enters, Orders, Crashes, callers_after, End, Whole, Crashed, Kept, Lost, end_of, node_after, event_after, deed_at, done, IsThere, is_plain, IsFrom, MayOrder, IsActIn, IsFitAct, line_effect, change_of, EachNode, IsOther, IsKeptOwn, each_node_keeps, OperatorIsFirst, by-end, commands-others, said-others, rules-stay, IsRun}
+use Rattle.world_laws.proofs.NodeWords.{WalletIdentity, wallet_text, who, who_is, WatcherIdentity, watcher_text, NodeOrder}
+use Rattle.world_laws.proofs.WorldWords.{option_map_some, Line, CallForm, Event, Idle, wallet_owner, node_in, is_command_of, Wallet, Node, World, is_wallet_role, is_watcher_role, owner_of_node, wallet_of, call_of, Watcher, is_declared_account, is_caller, may_be_wallet, Deed, new_node, offer_numbered, Run, events_of, begun, Place, NewWallet, NewWatcher, NewRogue, Origin, Plain, Deposits, Raw, Offered, Act, Adds, Enters, Orders, Crashes, callers_after, End, Whole, Crashed, Kept, Lost, node_after, event_after, deed_at, done, IsThere, is_plain, IsFrom, MayOrder, IsActIn, IsFitAct, line_effect, begun, change_of, EachNode, IsOther, IsKeptOwn, each_node_keeps, OperatorIsFirst, by-end, commands-others, said-others, rules-stay, IsRun}
 use Rattle.world_rules.proofs.Same.{IsSame, same-after}
 use Rattle.world_laws.proofs.Acts.{over_events}
 use Rattle.world_laws.proofs.Holders.{holder, holders, IsHeld, holder-wallet, holder-at, holders-set, holders-push, held-declared, Moves, IsKnown, KeepAccounts, accounts-push, accounts-callers, accounts-call}
@@ -234,9 +234,7 @@ module _ (dig : List ℕ → List ℕ) (events : List Event) (world : World) (ke
       (λ by is held. absurd (none_some by is))
   accounts-kept (Adds name (NewRogue who)) known = keeps.accounts
   accounts-kept (Enters origin call) known = entered-accounts call origin known
-  accounts-kept (Orders place order cut) known =
-      let deed = deed_at dig world place order in
-      same-accounts place _ known.there (same-after place.node deed (end_of cut place.node order deed))
+  accounts-kept (Orders place order cut) known = grind (arith, common_steps, same-accounts, same-after)
   accounts-kept (Crashes place) known =
       same-accounts place _ known (record { name = refl; account = refl; role = refl })
   accounts-kept act known = keeps.accounts

@@ -63,10 +63,7 @@ module _ (events : List Event) (world : World) (behind : IsBehind events world) 
       (subst (IsHeld (holders world.nodes)) (sym own) (own-held w me me_is))) ∙ from.0))
   from-offered call (Offered place) from w me me_is start =
       let by = (is-offer events world behind.keeps place call from.0 from.1).starts me.account start in
-      let here : place.number ≡ w = one-account w place.number me place.node me_is from.0 by.0 by.1 in
-      subst (λ m. Contains (offers_of events m) call) here
-      (subst (λ (calls : List RootCall). Contains calls call) (behind.offers place.number place.node from.0)
-      (has-contains place.node.offers call (offered-has from.1.0 place.node call from.1.1)))
+      grind (arith, common_steps, one-account, has-contains, offered-has)
 
   -- the event of a call that is entered is legal
   pub legal-entered : (dig : List ℕ → List ℕ) (call : RootCall) (origin : Origin) → IsFrom world call origin
@@ -91,9 +88,7 @@ module _ (events : List Event) (world : World) (behind : IsBehind events world) 
             accepted = sym by_log ∙ is;
             offered = grind (arith, has-contains, offered_left, contains-has, from-offered, start-any);
           })
-      by false is =
-          subst (λ b. IsLegalEvent (tests_by dig) (rules_of world.chain) events
-          (if b then Joins call else Bounces call)) (sym is) (sym by_log ∙ is)
+      by false is = grind (arith, common_steps, by_log)
 
   -- ---- declarations
 

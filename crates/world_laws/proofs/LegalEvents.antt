@@ -3,7 +3,7 @@
 use Rattle.world_laws.proofs.Basics.{◌≡◌, ℕ, true, List, [], ◌∷◌, Some, None, Ok, refl, sym, subst, slice_get, arith, rules, common_steps}
 use Rattle.world_laws.proofs.CoinWords.{RootCall, Tests, Rules, tests_by, rules_of}
 use Rattle.world_laws.proofs.NodeWords.{Accepted, who_is, guard_effect, NodeOrder}
-use Rattle.world_laws.proofs.WorldWords.{Line, Event, Accepts, Binds, TakesBack, Idle, log_of, wallet_owner, accepted, Node, World, wallet_of, is_wallet_role, is_watcher_role, Deed, bundle_read, without_offers, Run, events_of, KeptWorld, OrderEnds, Leaving, Watching, Guarding, GuardWatching, Sealing, order-ends, begun, said, NewWallet, Act, Adds, Enters, Orders, End, Whole, Crashed, Kept, Lost, end_of, event_after, deed_at, done, has_order, IsActIn, line_effect, rules-stay, IsRun, LegalAccept, LegalGuard, LegalBinding, LegalReclaim, IsLegalEvent, IsLegal}
+use Rattle.world_laws.proofs.WorldWords.{Line, Event, Accepts, Binds, TakesBack, Idle, log_of, wallet_owner, accepted, Node, World, wallet_of, is_wallet_role, is_watcher_role, Deed, bundle_read, without_offers, Run, events_of, KeptWorld, OrderEnds, Leaving, Watching, Guarding, GuardWatching, Sealing, order-ends, begun, said, NewWallet, Act, Adds, Enters, Orders, End, Whole, Crashed, Kept, Lost, end_of, event_after, deed_at, done, has_order, IsActIn, line_effect, begun, rules-stay, IsRun, LegalAccept, LegalGuard, LegalBinding, LegalReclaim, IsLegalEvent, IsLegal}
 use Rattle.world_laws.proofs.Acts.{IsNext, over_events}
 use Rattle.world_laws.proofs.Keeps.{is-watcher, own-tag, watcher-tag}
 use Rattle.world_laws.proofs.GuardsShown.{AreShown}

@@ -1,10 +1,9 @@
 -- What a wallet's leave and its watch offer is legal: the start of the exit of a coin at its top, and what is due for
 -- the coins that it holds there.
-use Rattle.world_laws.proofs.Basics.{◌≡◌, ◌≢◌, ℕ, zero, suc, ◌+◌, ◌<◌, ◌≤◌, List, [], Option, Some, None, Ok, Err, inl, inr, sym, ap, ◌∙◌, subst, arith, rules, Result, Contains, range_with_len, option_map_or, cases_eq, common_steps, has-in-flat_map}
-use Rattle.world_laws.proofs.CoinWords.{Owner, Links, RootCall, coins, coin_at, Bundle, Rules, coin_at-le, due_of, IsTip, Has, has-contains, contains-has, has-flat_map}
-use Rattle.world_laws.proofs.NodeWords.{WalletRefusal, kept_links, due_for_kept, owner_of, WalletRecords, who, noted, coin_state, kept_at, links_at, start_of, exit_start, leave_effect, due_at, due_in, watch_answer, links-some}
-use Rattle.world_laws.proofs.WorldWords.{Event, log_of, wallet_owner, accepted, said, KeptWallet, are_kept, IsAtTop, IsGuarding, ShowsGuard, ShowsTip, LegalWatch, LegalLeave, coin_at-positive}
-use Rattle.node_rules.specs.declared.refusal.WalletRefusal.TheVariants.{NotHeld}
+use Rattle.world_laws.proofs.Basics.{◌≡◌, ◌≢◌, ℕ, zero, suc, ◌+◌, ◌<◌, ◌≤◌, List, Option, Some, None, Ok, inl, inr, sym, subst, arith, rules, ◌∙◌, [], Result, range_with_len, Contains, cases_eq, common_steps, has-in-flat_map, option_map_or}
+use Rattle.world_laws.proofs.CoinWords.{Owner, RootCall, coins, coin_at, Bundle, Rules, coin_at-le, IsTip, Has, has-contains, contains-has, has-flat_map, Links, due_of}
+use Rattle.world_laws.proofs.NodeWords.{WalletRefusal, kept_links, due_for_kept, owner_of, WalletRecords, who, noted, coin_state, links_at, exit_start, leave_effect, due_at, due_in, watch_answer, kept_at, links-some}
+use Rattle.world_laws.proofs.WorldWords.{Event, log_of, wallet_owner, accepted, said, KeptWallet, are_kept, IsGuarding, ShowsGuard, ShowsTip, LegalWatch, LegalLeave, coin_at-positive}
 use Rattle.world_laws.proofs.GuardsShown.{AreShown}
 use Rattle.world_laws.proofs.AcceptsShown.{node_with, accepted_in}
 use Rattle.world_laws.proofs.AtTops.{IsShownAt, IsHeldAt, held-at-tip, top-held, held-top, shown-at}
@@ -81,20 +80,7 @@ module _ (dig : List ℕ → List ℕ) (rules : Rules) (events : List Event) (lo
       let by = shown c e held in
       let found = links-some dig wallet log c e (held-tip-is c e held).exists in
       let top = held-top dig events tag log log_is n wallet own c e held in
-      let start : start_of account e found.0 ≡ call = answer-same (start_of account e found.0) call
-      (ap (λ (o : Option Links). option_map_or (λ links. as_answer (start_of account e links)) o (Err NotHeld))
-      (sym found.1) ∙ is) in
-      record {
-        me = me;
-        me_is = me-is;
-        bundle = by.bundle;
-        shows = by.shows;
-        at_top = subst (λ a. IsAtTop events n (me) a by.bundle.tip) (sym by.coin_is)
-            (subst (IsAtTop events n (me) c) (sym by.tip_is) top);
-        links = found.0;
-        links_are = links-shown c e by ∙ found.1;
-        call_is = sym start ∙ ap (λ t. start_of account t found.0) (sym by.tip_is);
-      }
+      grind (arith, common_steps, answer-same, as_answer, me-is, links-shown)
 
   -- the start that a leave offers
   pub legal-left : (c : ℕ) (call : RootCall) → (leave_effect dig wallet log c).answer ≡ Ok call

@@ -70,15 +70,13 @@ module _ (tag : List ℕ) (log : List RootCall) (account : ℕ) (bundles guards 
           tip_is = by.tip ∙ f.tip_is;
           shows = shows by.bundle by.has;
           due = λ call due. due-offered f.kept f.has call
-              (subst (λ t. Contains (due_for_kept t log account by.bundle) call) tag_is
-              (subst (λ l. Contains (due_for_kept rules.tag l account by.bundle) call) (sym log_is) due));
+              (grind (arith, common_steps));
         };
     only = λ call is.
         let by = offered-due call is in record {
           bundle = by.bundle;
           shows = shows by.bundle by.has;
-          due = subst (λ l. Contains (due_for_kept rules.tag l account by.bundle) call) log_is
-              (subst (λ t. Contains (due_for_kept t log account by.bundle) call) (sym tag_is) by.due);
+          due = grind (arith, common_steps);
         };
   }
     where

@@ -20,8 +20,7 @@ and-seen true false off on = absurd (true≢false off)
 and-seen false b off on = absurd (false≢true on)
 
 pub and-off : (a b : Bool) → (a && b) ≡ false → a ≡ true → b ≡ false
-and-off true b off on = off
-and-off false b off on = absurd (false≢true on)
+and-off a b off on = grind (arith, common_steps, false≢true)
 
 -- ---- lists
 

@@ -61,12 +61,8 @@ module _ (dig : List ℕ → List ℕ) (events : List Event) (world : World) (ke
   new-noted : (event : Event) (node : Node) (identity : List ℕ) → node_in event ≡ None → node.notes ≡ identity ∷ []
       → Behind event (length world.nodes) node
   new-noted event node identity none notes = record {
-    guards = λ watcher bundle has.
-        absurd (none-kept dig identity bundle
-        (subst (λ (records : List (List ℕ)). Has (guards_in dig records) bundle) notes has));
-    accepts = λ wallet bundle has.
-        absurd (none-accepted dig identity bundle
-        (subst (λ (records : List (List ℕ)). Has (accepted_in dig records) bundle) notes has));
+    guards = grind (arith, common_steps, none-kept);
+    accepts = grind (arith, common_steps, none-accepted, accepted_in);
     left = λ wallet. record {
       openings = bare-openings dig (wallet_of node) identity notes;
       left = λ c e is. absurd (false≢true

@@ -1,6 +1,6 @@
 -- A start that a wallet's leave offers is the start of an exit at a tip that it has.
 use Rattle.world_laws.proofs.Basics.{◌≡◌, ℕ, ◌-◌, ◌==◌, true, false, if◌then◌else◌, List, [], ◌∷◌, length, Option, Some, None, inl, inr, refl, sym, ap, ◌∙◌, subst, arith, rules, option_map_or, AllByRecursion, eqb-true, or_cases, or_left, or_right, false≢true, common_steps, some_same, got-has}
-use Rattle.world_laws.proofs.CoinWords.{Owner, Link, Links, RootCall, CoinView, ExitView, last_spend, tip_of, coin_at, exits_of, Tests, Rules, Bundle, links_of, coin_at-grown, none-linked, due_for, due_of, Has, all-has, contains-has, has-flat_map, IsDueFor, due_for-due}
+use Rattle.world_laws.proofs.CoinWords.{Owner, Link, Links, RootCall, CoinView, ExitView, last_spend, tip_of, coin_at, exits_of, Tests, Rules, Bundle, coin_at-grown, none-linked, due_of, due_for, Has, all-has, contains-has, has-flat_map, IsDueFor, due_for-due}
 use Rattle.world_laws.proofs.NodeWords.{kept_links, start_by, start_of, due_for_kept, exit_block}
 use Rattle.world_laws.proofs.WorldWords.{Event, Leaves, log_of, coin_of_call, wallet_owner, accepted, is_start, starts_by, left_by, is_tip, ShowsTip, Taken, Bare, LegalLeave, IsLegal, coin-stays}
 use Rattle.world_laws.proofs.HeldCoins.{links-at, owner-stays, Holding, holding, is_noted, held_at, deposited-coin}
@@ -56,14 +56,7 @@ module _ (tests : Tests) (rules : Rules) (events : List Event) (w : ℕ) (legal 
       × AllByRecursion (λ link. link.opening.block ≡ link.block) links.spends
   shown-links me b links (Taken has) kept =
       let n = is_noted tests rules events w b legal (contains-has (accepted events w) b has) in
-      let own : Links = links_of rules n.history.made b in
-      let same : own ≡ links =
-      some_same own links (sym (kept-some rules (log_of events) b n.history.made n.history.coin) ∙ kept) in (
-        ap (λ (l : Links). l.coin) (sym same),
-        ap tip_of (sym same ∙ sym n.history.shown) ∙ n.history.tip,
-        subst (λ (l : Links). AllByRecursion (λ (link : Link). link.opening.block ≡ link.block) l.spends) same
-            (links-at rules b.coin b.openings),
-      )
+      grind (arith, common_steps, some_same, kept-some, links-at)
   shown-links me b links (Bare deposited none) kept =
       grind (arith, common_steps, deposited-coin, some_same, kept-some, none-linked, links-at)
 
@@ -93,10 +86,7 @@ module _ (tests : Tests) (rules : Rules) where
   left-names events w call legal l =
       let shown = shown-links tests rules events w legal l.me l.bundle l.links l.shows l.links_are in
       let at = start-at l.me.account l.bundle.tip l.links shown.1 shown.2 in
-      record {
-        coin_is = ap coin_of_call l.call_is ∙ at.coin_is ∙ shown.0;
-        block_is = ap exit_block l.call_is ∙ at.block_is;
-      }
+      grind (arith, common_steps)
 
   -- what a leave offers
   left-start : (events : List Event) (w : ℕ) (call : RootCall) → IsLegal tests rules events
@@ -106,16 +96,7 @@ module _ (tests : Tests) (rules : Rules) where
       let mine : h.me ≡ l.me = some_same h.me l.me (sym h.me_is ∙ l.me_is) in
       let held = held_at tests rules events w l.bundle.coin l.bundle.tip legal h in
       let at = left-names events w call legal l in
-      let coin : coin_of_call call ≡ l.bundle.coin = at.coin_is in
-      let block : exit_block call ≡ l.bundle.tip = at.block_is in
-      record {
-        me = l.me;
-        me_is = l.me_is;
-        made = held.made;
-        made_is = ap (coin_at (log_of events)) coin ∙ held.made_is;
-        tip = (λ i. is_tip events w (sym mine i) (coin i) (block i))
-            ∙ tip-held events w l.bundle.coin l.bundle.tip h;
-      }
+      grind (arith, common_steps, tip-held)
 
   left-on : (event : Event) (events : List Event) (w : ℕ) (call : RootCall) → IsLegal tests rules (event ∷ events)
       → IsLeftStart events w call → IsLeftStart (event ∷ events) w call

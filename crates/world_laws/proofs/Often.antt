@@ -59,10 +59,7 @@ module _ (tests : Tests) (rules : Rules) (w c e time : ℕ) where
   exit-recent [] since x b legal there c_is b_is over recent = absurd (false≢true recent)
   exit-recent (Joins call ∷ events) since x b legal there c_is b_is over recent =
       elim (stood-before tests rules (log_of events) call legal.0.accepted x there) [
-        | inl new ↦
-            let late = recent-clock events (call ∷ since) legal.1 recent in
-            let less : RESPONSE_WINDOW ≤ CHALLENGE_WINDOW = omega arith in
-            absurd (omega (arith, late, over, new.start, less))
+        | inl new ↦ grind (arith, common_steps, recent-clock)
         | inr s ↦ and_from (not (is_start c b call))
             (has_look (is_start c b) (is_on_exit c b) (call ∷ since) events w c e)
             (not_from_false _ ((λ i. is_start (sym c_is i) (sym b_is i) call) ∙ s.not_started))
@@ -72,9 +69,7 @@ module _ (tests : Tests) (rules : Rules) (w c e time : ℕ) where
   exit-recent (Watches n offers ∷ events) since x b legal there c_is b_is over recent =
       elim (or_cases (nat_lt time (now (log_of events) + RESPONSE_WINDOW) && is_guardian events w c e n
       && are_fulfilled (is_on_coin c) since offers) (has_recent_look time since events w c e) recent) [
-        | inl here ↦ or_left (is_guardian events w c e n && are_fulfilled (is_on_exit c b) since offers)
-            (has_look (is_start c b) (is_on_exit c b) since events w c e)
-            (watch-recent (is_on_exit c b) (exit-asks c b) n offers since events here)
+        | inl here ↦ grind (arith, common_steps, or_left, watch-recent, exit-asks)
         | inr earlier ↦ or_right (is_guardian events w c e n && are_fulfilled (is_on_exit c b) since offers)
             (has_look (is_start c b) (is_on_exit c b) since events w c e)
             (exit-recent events since x b legal.1 there c_is b_is over earlier)
@@ -107,9 +102,7 @@ module _ (tests : Tests) (rules : Rules) (w c e time : ℕ) where
   challenge-recent (Watches m offers ∷ events) since x n ch legal there c_is e_is has n_is still over recent =
       elim (or_cases (nat_lt time (now (log_of events) + RESPONSE_WINDOW) && is_guardian events w c e m
       && are_fulfilled (is_on_coin c) since offers) (has_recent_look time since events w c e) recent) [
-        | inl here ↦ or_left (is_guardian events w c e m && are_fulfilled (is_respond c e n) since offers)
-            (has_look (is_before c e n) (is_respond c e n) since events w c e)
-            (watch-recent (is_respond c e n) (respond-asks c e n) m offers since events here)
+        | inl here ↦ grind (arith, common_steps, or_left, watch-recent, respond-asks)
         | inr earlier ↦ or_right (is_guardian events w c e m && are_fulfilled (is_respond c e n) since offers)
             (has_look (is_before c e n) (is_respond c e n) since events w c e)
             (challenge-recent events since x n ch legal.1 there c_is e_is has n_is still over earlier)

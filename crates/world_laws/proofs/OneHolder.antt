@@ -1,7 +1,7 @@
 -- Two wallets don't hold one coin.
-use Rattle.world_laws.proofs.Basics.{◌≡◌, ◌≢◌, ℕ, ◌+◌, ◌<◌, ◌≤◌, ◌==◌, Bool, true, false, if◌then◌else◌, List, [], ◌∷◌, inl, inr, sym, ap, ◌∙◌, subst, arith, rules, is_some, cases_order, ne_eqb, eq-eqb, false≢true, some_same}
-use Rattle.world_laws.proofs.CoinWords.{Owner, RawOpening, Deposit, coins, coin_at, Tests, Rules, tests_by, coin_at-le, Bundle, Has}
-use Rattle.world_laws.proofs.WorldWords.{Event, Joins, Accepts, log_of, wallet_owner, accepted, bound_by, signed_away_by, openings_of, seen, collides, is_forged, was_declared_before, IsLegal, OneWalletHoldsLegally}
+use Rattle.world_laws.proofs.Basics.{◌≡◌, ◌≢◌, ℕ, ◌+◌, ◌<◌, ◌≤◌, ◌==◌, true, false, if◌then◌else◌, List, [], ◌∷◌, inl, inr, sym, ap, ◌∙◌, subst, arith, rules, is_some, cases_order, ne_eqb, eq-eqb, false≢true, common_steps, some_same}
+use Rattle.world_laws.proofs.CoinWords.{RawOpening, Deposit, coins, Tests, Rules, tests_by, coin_at-le, Bundle, Has, Owner}
+use Rattle.world_laws.proofs.WorldWords.{Event, Joins, Accepts, log_of, wallet_owner, accepted, bound_by, signed_away_by, openings_of, seen, collides, is_forged, was_declared_before, IsLegal, OneWalletHoldsLegally, was_declared_before}
 use Rattle.world_laws.proofs.HeldCoins.{HasOneLeaf, one_leaf, walk-opened, place_of, IsShownAt, parted, SignsBy, owners_apart, Holding, holding, is_noted, IsSince, owner-some, owner-stays, bound_since, unspent, held_at, end_shown, shown_same, successor_in}
 use Rattle.world_laws.proofs.Before.{legal-before}
 
@@ -37,13 +37,11 @@ module _ (tests : Tests) (rules : Rules) where
   accepted_since (Joins (Deposit account amount key) ∷ events) v w c b o legal first h c_is has =
       let before = legal-before tests rules (Joins (Deposit account amount key)) events legal in
       let n = is_noted tests rules events w b before h in
-      let low : c ≤ coins (log_of events) = coin_at-le (log_of events) c n.history.made
-      (ap (coin_at (log_of events)) (sym c_is) ∙ n.history.coin) in
+      let low : c ≤ coins (log_of events) = grind (arith, common_steps, coin_at-le) in
       let apart : c == coins (log_of events) + 1
       ≡ false = ne_eqb c (coins (log_of events) + 1) (λ e. omega (arith, low, e)) in
       inr (accepted_since events v w c b o before
-      (subst (λ (k : Bool). (if k then is_some (wallet_owner events v) else was_declared_before events v c) ≡ true)
-      apart first) h c_is has)
+      (grind (arith, common_steps)) h c_is has)
   accepted_since (Accepts u bundle ∷ events) v w c b o legal first h c_is has =
       let before = legal-before tests rules (Accepts u bundle) events legal in
       (elim (u == w) as (λ k. Has (if k then bundle ∷ accepted events w else accepted events w) b

@@ -58,7 +58,5 @@ free-act world line act is free = by act (is-act world line act is)
         absurd (false≢true
         (sym (form-none world account of.line_is.0 call (ap is_barred (sym of.line_is.1) ∙ free) of.line_is.2) ∙ some))
     by (Enters (Offered place) call) of = λ some. refl
-    by (Orders place order cut) of =
-        lays-none world place.node.role of.line_is.0 order (command-free line of.line_is.0 free of.line_is.1)
-        of.line_is.2
+    by (Orders place order cut) of = grind (arith, common_steps, lays-none, command-free)
     by one of = tt

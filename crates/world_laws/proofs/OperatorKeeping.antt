@@ -1,9 +1,9 @@
 -- An operator that keeps to the rules: what its notes and the log are as acts, that these are honest, and that one
 -- more event leaves it so.
-use Rattle.world_laws.proofs.Basics.{◌≡◌, ℕ, suc, ◌+◌, ◌<◌, ◌≤◌, Bool, true, false, if◌then◌else◌, List, [], ◌∷◌, ◌++◌, Some, Ok, refl, sym, ap, ◌∙◌, subst, slice_get, arith, option_and_then, true≢false, false≢true, bytes_eq-Decides, common_steps}
-use Rattle.world_laws.proofs.CoinWords.{Entry, leaf_of, SignedTx, RootCall, Chain, with_log, signed_in, may_stand_in, blocks, root_at, root_at-grown, Has}
+use Rattle.world_laws.proofs.Basics.{◌≡◌, ℕ, suc, ◌+◌, ◌<◌, ◌≤◌, Bool, true, false, List, [], ◌∷◌, ◌++◌, Some, Ok, refl, sym, ap, ◌∙◌, subst, slice_get, arith, true≢false, false≢true, bytes_eq-Decides, common_steps, option_and_then}
+use Rattle.world_laws.proofs.CoinWords.{Entry, leaf_of, SignedTx, RootCall, Chain, with_log, signed_in, may_stand_in, blocks, root_at-grown, Has, root_at}
 use Rattle.world_laws.proofs.NodeWords.{are_of}
-use Rattle.world_laws.proofs.OperatorWords.{Identity, Note, Offered, Laid, Sealed, operator_kinds, who_is, notes_of, Forest, after_note, forest_of, tree_of, tree_at, forest_in, Act, Called, Kept, log_of, kept_notes, sealed_in, times_committed, times_sealed, IsInTime, IsHonestNote, IsHonestCall, IsHonest, root_at-le, root_at-new, tree_of-grow, count-push}
+use Rattle.world_laws.proofs.OperatorWords.{Identity, Note, Offered, Laid, Sealed, operator_kinds, who_is, notes_of, Forest, after_note, forest_of, tree_at, tree_of, forest_in, Act, Called, Kept, log_of, kept_notes, sealed_in, times_committed, times_sealed, IsInTime, IsHonestNote, IsHonestCall, IsHonest, root_at-le, root_at-new, tree_of-grow, count-push}
 use Rattle.world_laws.proofs.WorldWords.{and_then_some, Event, Joins, is_command_of, Operator, Node, is_commit, commits_since}
 use Rattle.world_laws.proofs.OperatorActs.{commits_root}
 
@@ -72,8 +72,7 @@ sealed-more dig note forest root = grind (arith, common_steps, count-push)
 -- ---- commits
 
 is-commit : (call : RootCall) → is_commit (Joins call) ≡ commits_root call
-is-commit (RootCall.Commit account root) = refl
-is-commit call = refl
+is-commit call = grind (arith, common_steps)
 
 not-committed : (call : RootCall) (log : List RootCall) (root : List ℕ) → commits_root call ≡ false
     → times_committed (call ∷ log) root ≡ times_committed log root
@@ -94,10 +93,7 @@ root-of-commit call is = absurd (false≢true is)
 since-same : (event : Event) (events : List Event) → is_command_of 0 event ≡ false → is_commit event ≡ false
     → commits_since (event ∷ events) ≡ commits_since events
 unfolding commits_since
-since-same event events other none =
-    let less : 0 + commits_since events ≡ commits_since events = omega arith in
-    ap (λ (b : Bool). if b then 0 else (if is_commit event then 1 else 0) + commits_since events) other
-    ∙ ap (λ (b : Bool). (if b then 1 else 0) + commits_since events) none ∙ less
+since-same event events other none = grind (arith, common_steps)
 
 since-commit : (account : ℕ) (root : List ℕ) (events : List Event)
     → commits_since (Joins (RootCall.Commit account root) ∷ events) ≡ 1 + commits_since events

@@ -1,6 +1,6 @@
 -- What each act that is free leaves of an operator that keeps to the rules.
-use Rattle.world_laws.proofs.Basics.{◌≡◌, ◌⊎◌, ℕ, zero, suc, ◌<◌, ◌≤◌, ◌==◌, Bool, true, false, if◌then◌else◌, List, [], ◌∷◌, ◌++◌, Option, Some, None, Ok, Err, inl, inr, refl, sym, ap, ◌∙◌, subst, set, slice_get, arith, lit<, Result, option_map_or, cases_eq, ne_eqb, true≢false, false≢true, slice_get_within, bytes_eq-Decides, common_steps, some_same, none_some}
-use Rattle.world_laws.proofs.CoinWords.{root_of, SignedTx, TxRefusal, RootCall, Answer, CoinView, Chain, with_log, signed_in, AreBytes, coin_at, tests_by, rules_of, answer_to, is_accepted, log_after, Has}
+use Rattle.world_laws.proofs.Basics.{◌≡◌, ◌⊎◌, ℕ, ◌<◌, ◌≤◌, ◌==◌, Bool, true, false, if◌then◌else◌, List, [], ◌∷◌, ◌++◌, Option, Some, None, Ok, inl, inr, refl, sym, ap, ◌∙◌, subst, set, slice_get, arith, lit<, Err, zero, suc, Result, option_map_or, cases_eq, ne_eqb, true≢false, false≢true, slice_get_within, bytes_eq-Decides, common_steps, some_same, none_some}
+use Rattle.world_laws.proofs.CoinWords.{root_of, SignedTx, TxRefusal, RootCall, Answer, CoinView, Chain, with_log, signed_in, AreBytes, tests_by, rules_of, answer_to, is_accepted, log_after, Has, coin_at}
 use Rattle.world_laws.proofs.NodeWords.{Effect, are_of, offer_cause, prove_cause, NodeOrder, OperatorOrder, with_record, Response, answered, on_pooled, on_bundled, on_proved, operator_does}
 use Rattle.world_laws.proofs.OperatorWords.{Offered, Sealed, note_text, operator_kinds, who_is, notes_of, Forest, after_note, forest_of, forest_in, offer_at, offer_of, offer_effect, seal_effect, prove_answer, bundle_answer, absences_answer, log_of, kept_notes, times_committed, times_sealed, one_if, count-push}
 use Rattle.world_laws.proofs.WorldWords.{Line, Event, Joins, Bounces, Other, Idle, node_in, is_command_of, Operator, Node, World, is_wallet_role, is_watcher_role, is_operator_role, Deed, as_deed, node_does, with_records, after_command, after_crash, Run, IsFitOrder, each-answer, begun, set-same, set-other, push-other, Place, NewWallet, NewWatcher, NewRogue, Origin, OnOffer, Act, Rests, Signs, Adds, Enters, Orders, Crashes, End, Whole, Crashed, Kept, Lost, end_of, node_after, event_after, deed_at, done, IsThere, IsFrom, has_order, IsActIn, IsFitAct, change_of, EachNode, IsKeptOwn, each_node_keeps, IfThere, node-there, OperatorIsFirst, by-end, IsRun, is_commit, commits_since}
@@ -124,8 +124,7 @@ module _ (dig : List ℕ → List ℕ) (events : List Event) (chain : Chain) (op
       (ap (are_of operator_kinds) notes_are ∙ notes_follow operator_kinds op.notes body keeping.kinds may)
       (ap who_is notes_are ∙ added.0) (ap notes_of notes_are ∙ added.1 noted)
       (are, (coin, pool-honest bytes coin taken))
-      (λ account root has.
-      absurd (subst (λ (calls : List RootCall). Has calls (RootCall.Commit account root)) empty has))
+      (grind (arith, common_steps))
     where
       pool-honest : (bytes : List ℕ) (coin : ℕ) → (offer_effect dig op.notes chain.log bytes).answer ≡ Ok coin
           → (offer_of dig chain.tag (log_of keeping.acts) (forest_of (kept_notes keeping.acts)) bytes
@@ -236,9 +235,7 @@ module _ (dig : List ℕ → List ℕ) (events : List Event) (world : World) (fi
       by true role =
           subst (λ (node : Node). Has node.offers call)
           (sym (is-op place.number place.node (first place.number place.node from.0 role) from.0)) there
-      by false role =
-          absurd (false≢true (sym (node-there IsQuiet world.nodes quiet place.number place.node from.0 role call there)
-          ∙ some))
+      by false role = grind (arith, common_steps, false≢true, node-there, there)
   offered-own call origin from some offered = absurd (false≢true offered)
 
   calls-keep : (call : RootCall) (origin : Origin) → IsFrom world call origin

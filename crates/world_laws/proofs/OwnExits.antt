@@ -65,21 +65,11 @@ module _ (tests : Tests) (rules : Rules) (log : List RootCall) (me : Owner) (c e
   came-from (StartDeposit account k block) is =
       let s = accepted_calls_show tests rules log (StartDeposit account k block) is in
       each-exit (IfOwn log me c e (StartDeposit account k block)) log (StartDeposit account k block)
-      (λ own. inr (record {
-        start = own.1;
-        coin_is = own.0;
-        block_is = own.2;
-        not_withdrawn = ap (is_withdrawn log) (sym own.0) ∙ s.not_withdrawn;
-      })) tt (stood (StartDeposit account k block))
+      (grind (arith, common_steps)) tt (stood (StartDeposit account k block))
   came-from (StartSpend account k parent exit) is =
       let s = accepted_calls_show tests rules log (StartSpend account k parent exit) is in
       each-exit (IfOwn log me c e (StartSpend account k parent exit)) log (StartSpend account k parent exit)
-      (λ own. inr (record {
-        start = own.1;
-        coin_is = own.0;
-        block_is = own.2;
-        not_withdrawn = ap (is_withdrawn log) (sym own.0) ∙ s.not_withdrawn;
-      })) tt (stood (StartSpend account k parent exit))
+      (grind (arith, common_steps)) tt (stood (StartSpend account k parent exit))
   came-from (Before account k f shown) is =
       each-exit (IfOwn log me c e (Before account k f shown)) log (Before account k f shown) tt (λ x none was. was)
       (stood (Before account k f shown))

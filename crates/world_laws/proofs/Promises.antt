@@ -2,7 +2,7 @@
 -- each line.
 use Rattle.world_laws.proofs.Basics.{◌≡◌, ◌⊎◌, inl, inr, ◌≤◌, ℕ, ◌+◌, ◌||◌, true, false, if◌then◌else◌, List, [], ◌∷◌, ◌++◌, is_some, Contains, refl, sym, ap, ◌∙◌, subst, arith, rules, ◌≢◌, list_any, le_refl, or_parts, ne_eqb, eq-eqb, option_map_or, common_steps}
 use Rattle.world_laws.proofs.CoinWords.{RootCall, coins, Tests, Rules, tests_by, rules_of, answer_to, is_accepted}
-use Rattle.world_laws.proofs.WorldWords.{Line, Event, Joins, Watches, log_of, wallet_owner, is_command_of, offered, World, Run, events_of, is_watch, is_joined, IsRun, HeldCoinsAreSafe, OneWalletHolds, lacks_bond, DueCallsAreTaken, HarmsAreTakings, LostIsExhibited, IsTaken, StartsAreTaken, was_declared_before, fresh_offers, LookedAfterCoinsAreSafe, LookingOftenIsEnough, is_taken_kind, WentUnseen, TakenCoinsWentUnseen, IsLegal, logs_are_of_events, Exhibit, exhibit_of, exhibit_of_run, IsOfHeld, verdicts_are_of_held_coins}
+use Rattle.world_laws.proofs.WorldWords.{Line, Event, Joins, Watches, log_of, wallet_owner, is_command_of, World, Run, events_of, is_joined, IsRun, HeldCoinsAreSafe, OneWalletHolds, lacks_bond, DueCallsAreTaken, HarmsAreTakings, LostIsExhibited, StartsAreTaken, IsTaken, was_declared_before, fresh_offers, LookedAfterCoinsAreSafe, LookingOftenIsEnough, is_taken_kind, WentUnseen, TakenCoinsWentUnseen, IsLegal, logs_are_of_events, Exhibit, exhibit_of, exhibit_of_run, IsOfHeld, verdicts_are_of_held_coins}
 use Rattle.world_laws.proofs.Often.{often_looked_after}
 use Rattle.world_laws.proofs.Attended.{attended_are_looked_after}
 use Rattle.world_laws.proofs.CoinEvents.{runs-legal}
@@ -58,11 +58,7 @@ fresh-watch [] n calls earlier since =
 fresh-watch (event ∷ later) n calls earlier since =
     let parts = or_parts (is_command_of n event || is_joined event)
     (list_any (λ event. is_command_of n event || is_joined event) later) since in
-    let both = or_parts (is_command_of n event) (is_joined event) parts.0 in
-    ap (λ b. if b then (if is_watch event then offered event else [])
-    else if is_joined event then [] else fresh_offers (later ++ Watches n calls ∷ earlier) n) both.0
-    ∙ ap (λ b. if b then [] else fresh_offers (later ++ Watches n calls ∷ earlier) n) both.1
-    ∙ fresh-watch later n calls earlier parts.1
+    grind (arith, common_steps, fresh-watch later n calls earlier parts.1, or_parts)
 
 -- the events up to a line of a run are legal
 pub legal-to : (dig : List ℕ → List ℕ) (lines : List Line) (run : Run) (world : World) (later events : List Event)
@@ -103,8 +99,7 @@ pub due_are_taken : DueCallsAreTaken
 due_are_taken dig lines run world n calls call is fresh has whole rich =
     let log = logs_are_of_events dig lines run world is.run_is is.world_is in
     let offers : fresh_offers (events_of run.entries) n ≡ calls =
-    ap (λ events. fresh_offers events n) fresh.events_are
-    ∙ fresh-watch fresh.later n calls fresh.earlier fresh.since in
+    grind (arith, common_steps, fresh-watch) in
     ap (λ l. is_accepted (answer_to (tests_by dig) (rules_of world.chain) l call)) log
     ∙ due_calls_are_taken dig (rules_of world.chain) (events_of run.entries) n call is.digest
     (runs-legal dig lines run world is) (subst (λ cs. Contains cs call) (sym offers) has) whole
@@ -121,10 +116,7 @@ pub lost_is_shown : LostIsExhibited
 unfolding exhibit_of_run
 lost_is_shown dig lines run world verdict is has lost nothing =
     let held = verdicts_are_of_held_coins dig lines run world verdict is.run_is is.world_is has in
-    lost_is_exhibited dig (rules_of world.chain) (events_of run.entries) held.number verdict.coin held.tip held.owner
-    is.digest (runs-legal dig lines run world is) held.is_owner (sym held.kind ∙ lost)
-    (sym (ap (λ w. option_map_or (λ world. exhibit_of dig world.chain.tag (events_of run.entries)) w
-    Exhibit.Nothing) is.world_is) ∙ nothing)
+    grind (arith, common_steps, lost_is_exhibited, runs-legal)
 
 pub taken_went_unseen : TakenCoinsWentUnseen
 unfolding exhibit_of_run

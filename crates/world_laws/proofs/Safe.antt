@@ -1,8 +1,8 @@
 -- A held coin that is looked after is safe, at every one of legal events.
-use Rattle.world_laws.proofs.Basics.{◌≡◌, ℕ, ◌&&◌, not, true, false, List, [], ◌∷◌, Some, inl, inr, refl, sym, ap, ◌∙◌, subst, arith, rules, list_any, not-true, cases_Bool, and_parts, and_from, and_right, or_cases, or_left, or_right, not_from_false, common_steps, some_same, all-from}
-use Rattle.world_laws.proofs.CoinWords.{Owner, RootCall, Tick, now, coin_at, exits, Tests, Rules, tests_by, contains-has}
+use Rattle.world_laws.proofs.Basics.{◌≡◌, ℕ, ◌&&◌, true, false, List, [], ◌∷◌, Some, inl, inr, refl, sym, ap, ◌∙◌, subst, arith, rules, not, not-true, cases_Bool, and_parts, and_from, and_right, or_cases, or_left, or_right, not_from_false, common_steps, some_same, all-from, list_any}
+use Rattle.world_laws.proofs.CoinWords.{Owner, RootCall, Tick, now, exits, coin_at, Tests, Rules, tests_by, contains-has}
 use Rattle.world_laws.proofs.NodeWords.{exit_block}
-use Rattle.world_laws.proofs.WorldWords.{IsDigest, Event, Joins, Bounces, log_of, coin_of_call, wallet_owner, accepted, bound_by, is_bundle, openings_of, seen, strings_of, has_clash, collides, forges_one, is_forged, was_deposited, holds, harms, is_harmed, is_safe, starts_by, left_by, is_left, is_tip, LegalCall, IsLegal, LegalCoinsAreSafe, IfOf, AllWatched, goes_unseen, is_looked_after}
+use Rattle.world_laws.proofs.WorldWords.{IsDigest, Event, Joins, Bounces, log_of, coin_of_call, wallet_owner, bound_by, accepted, is_bundle, openings_of, seen, strings_of, has_clash, collides, forges_one, is_forged, holds, harms, is_harmed, is_safe, was_deposited, starts_by, left_by, is_left, is_tip, LegalCall, IsLegal, LegalCoinsAreSafe, AllWatched, IfOf, goes_unseen, is_looked_after}
 use Rattle.world_laws.proofs.HeldCoins.{one_leaf, seen-call, Holding, holding, held_top}
 use Rattle.world_laws.proofs.Offers.{left_start}
 use Rattle.world_laws.proofs.OwnExits.{left-is, left-stands}

@@ -1,8 +1,8 @@
 -- What a wallet's command gives out that is answered with a leaf is the body that the leaf binds, with the signature.
 use Rattle.world_laws.proofs.Basics.{◌≡◌, ℕ, ◌^◌, ◌<◌, Bool, true, false, if◌then◌else◌, List, [], ◌∷◌, ◌++◌, Option, Some, None, refl, sym, ap, ◌∙◌, subst, arith, Result, IfSome, slice_get, unwrap_or, and_parts, eq-eqb, common_steps, some_same}
-use Rattle.world_laws.proofs.CoinWords.{signature_of, Owner, Body, RootCall, IsBody, body_text, body_at_start, Held}
-use Rattle.world_laws.proofs.NodeWords.{messages_of, Sent, WalletRefusal, secret_of, leaves_in, WalletRecords, WalletEffect, who, used, coin_state, last_leaf, accept_effect, send_effect, again_by, again_answer, leave_effect, reclaim_effect, migrate_effect, sent_body, wallet-parts, tag-long, tip-fits, held-tip, Reply, wallet_cause, NodeOrder, WalletOrder, Response, answered, on_accepted, on_sent, on_leaving, on_reclaimed, on_migrated, again_does, wallet_does, SendEnds, Refused, Sends, send_ends}
-use Rattle.world_laws.proofs.WorldWords.{option_map_some, Line, Command, WalletCommand, Event, Binds, Other, bound_by, leaf_at, Node, World, is_wallet_role, number_of, wallet_of, Deed, wallet_order, order_of, event_of, each-answer, LineEffect, without_offers, IsCommandIn, position-is, IsGoodOwner, IsFitOrder, KeptWallet, KeptWorld, few-blocks, said, Place, Cut, Act, Rests, Orders, End, Whole, Crashed, Kept, Lost, is_down_for, order_act, act_of, end_of, end_effect, deed_at, done, IsFitAct, IsFound, understood-in, body-signed, words}
+use Rattle.world_laws.proofs.CoinWords.{signature_of, Owner, Body, RootCall, IsBody, body_text, body_at_start}
+use Rattle.world_laws.proofs.NodeWords.{messages_of, Sent, WalletRefusal, secret_of, leaves_in, WalletRecords, WalletEffect, who, used, last_leaf, send_effect, again_by, again_answer, leave_effect, migrate_effect, accept_effect, sent_body, Reply, wallet_cause, NodeOrder, WalletOrder, Response, answered, on_sent, on_leaving, on_migrated, again_does, wallet_does, on_accepted, SendEnds, Refused, Sends, send_ends}
+use Rattle.world_laws.proofs.WorldWords.{option_map_some, Line, Command, WalletCommand, Event, Binds, Other, bound_by, leaf_at, Node, World, is_wallet_role, number_of, wallet_of, Deed, wallet_order, order_of, event_of, each-answer, LineEffect, without_offers, IsCommandIn, position-is, IsGoodOwner, IsFitOrder, KeptWallet, KeptWorld, few-blocks, said, Place, Cut, Act, Rests, Orders, End, Whole, Crashed, Kept, Lost, act_of, end_effect, done, end_of, deed_at, IsFitAct, IsFound, understood-in, body-signed, sent-is}
 use Rattle.node_rules.specs.WalletRecords.{who_is}
 use Rattle.world_laws.proofs.SignedMessages.{leaf-newest, used-is, message-body, last-message}
 
@@ -48,17 +48,6 @@ module _ (dig : List ℕ → List ℕ) (events : List Event) (world : World) (ke
   -- a transfer that is signed
   module _ (coin : ℕ) (to : Owner) (last : Option ℕ) (coin_fits : coin < 2 ^ 64) (good : IsGoodOwner to)
       (last_fits : IfSome last (λ n. n < 2 ^ 64)) where
-    sent-is : (tip : ℕ) → coin_state dig wallet log coin ≡ Held tip → IsBody (sent_body wallet coin tip to last)
-    sent-is tip held = record {
-      tag = tag-long dig wallet.notes (wallet-parts dig wallet wallet-kept.is).role;
-      coin = coin_fits;
-      parent = tip-fits dig wallet log coin tip
-          (words dig (said events n) log wallet wallet-kept (few-blocks dig events world kept))
-          (held-tip dig wallet log coin tip held);
-      to = good.is;
-      last = last_fits;
-    }
-
     sent-made : (body : Body) (signature : List ℕ) → IsBody body → (q : ℕ) → used wallet ≡ q
         → leaf_at q (bound_by (Binds n (body_at_start (body_text body ++ signature)) ∷ events) n) ≡ Some body
     unfolding bound_by said
@@ -88,7 +77,8 @@ module _ (dig : List ℕ → List ℕ) (events : List Event) (world : World) (ke
             let number : used wallet ≡ q = cc same in
             record {
               body = body;
-              leaf = sent-made body (sign (used wallet)) (sent-is tip held) q number;
+              leaf = sent-made body (sign (used wallet)) (sent-is dig (said events n) log wallet wallet-kept
+                  (few-blocks dig events world kept) coin to last coin_fits good.is good.key last_fits tip held) q number;
               made_is = ap (λ (k : ℕ). body_text body ++ sign k) number;
             })
 
@@ -104,13 +94,7 @@ module _ (dig : List ℕ → List ℕ) (events : List Event) (world : World) (ke
       of k q found same =
           let there = last-message dig (said events n) log wallet wallet-kept coin k found in
           let bound = message-body dig (said events n) log wallet wallet-kept k there.0 there.1 in
-          let text : unwrap_or (slice_get (messages_of wallet.leaves) k) [] ≡ body_text bound.body =
-          ap (λ (o : Option (List ℕ)). unwrap_or o []) there.1 ∙ bound.text in
-          record {
-            body = bound.body;
-            leaf = subst (λ (j : ℕ). leaf_at j (bound_by events n) ≡ Some bound.body) same bound.leaf;
-            made_is = λ i. text i ++ signature_of (secret_of (who wallet)) (same i) (text i);
-          }
+          grind (arith, common_steps)
 
       by : (o : Option ℕ) → last_leaf (leaves_in wallet.leaves) coin ≡ o
           → MakesBy (WalletOrder.Again coin) (answered wallet_cause on_sent (again_by wallet o))
@@ -127,9 +111,7 @@ module _ (dig : List ℕ → List ℕ) (events : List Event) (world : World) (ke
   wallet-makes (WalletOrder.Again coin) fit = again coin
   wallet-makes (WalletOrder.Leave coin) fit =
       others (WalletOrder.Leave coin) on_leaving (λ call q wrong. cc wrong) (leave_effect dig wallet log coin).answer
-  wallet-makes (WalletOrder.Reclaim bytes) fit =
-      others (WalletOrder.Reclaim bytes) on_reclaimed (λ taken q wrong. cc wrong)
-      (reclaim_effect dig wallet log bytes).answer
+  wallet-makes (WalletOrder.Reclaim bytes) fit = grind (arith, common_steps, others)
   wallet-makes WalletOrder.Migrate fit =
       others WalletOrder.Migrate on_migrated (λ done q wrong. cc wrong) (migrate_effect wallet).answer
   wallet-makes WalletOrder.Watch fit = λ q wrong. absurd (cc wrong)
@@ -158,12 +140,7 @@ module _ (dig : List ℕ → List ℕ) (events : List Event) (world : World) (ke
   new-sent line act name own q fit is is_command sent =
       let (cut, by) = understood-in world line (Command.Wallet name own) act is is_command in
       let found = option_map_some NodeOrder.Wallet (wallet_order world own) by.order by.order_is in
-      subst (λ (a : Act). IsFitAct a → (done dig world a).reply ≡ Reply.Sent q → IsNew events world (done dig world a)
-      name q) by.act_is
-      (subst (λ (o : NodeOrder). IsFitAct (order_act cut by.place o)
-      → (done dig world (order_act cut by.place o)).reply ≡ Reply.Sent q
-      → IsNew events world (done dig world (order_act cut by.place o)) name q) found.2
-      (ordered cut by.place by.at found.0 (is_down_for (NodeOrder.Wallet found.0) by.place.node))) fit sent
+      grind (arith, common_steps, ordered)
     where
       ended : (place : Place) (deed : Deed) → IsFound world is_wallet_role name place
           → ((k : ℕ) → deed.gives.reply ≡ Reply.Sent k
@@ -171,13 +148,8 @@ module _ (dig : List ℕ → List ℕ) (events : List Event) (world : World) (ke
           → (end_effect world place deed end).reply ≡ Reply.Sent q
           → IsNew events world (end_effect world place deed end) name q
       ended place deed at makes Whole sent = grind (arith, common_steps)
-      ended place deed at makes Crashed sent = let made = makes q sent in record {
-        n = place.number;
-        node = place.node;
-        number = at.number;
-        node_is = at.there;
-        made = grind (arith, cut-bound);
-      }
+      ended place deed at makes Crashed sent =
+          let made = makes q sent in grind (arith, common_steps, cut-bound)
       ended place deed at makes Kept sent = absurd (cc sent)
       ended place deed at makes Lost sent = absurd (cc sent)
 

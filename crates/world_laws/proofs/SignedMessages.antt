@@ -109,8 +109,5 @@ module _ (dig : List ℕ → List ℕ) (s : Said) (log : List RootCall) (wallet 
           → option_map_or (λ (leaf : LeafRecord). leaf.body.coin == coin)
           (option_map (λ m. record { body = body_at_start m }) (slice_get (messages_of wallet.leaves) q)) false ≡ true
           → (message : List ℕ) × (slice_get (messages_of wallet.leaves) q ≡ Some message)
-      by None none passes =
-          absurd (false≢true (sym (ap (λ (o : Option (List ℕ)).
-          option_map_or (λ (leaf : LeafRecord). leaf.body.coin == coin)
-          (option_map (λ m. record { body = body_at_start m }) o) false) none) ∙ passes))
+      by None none passes = grind (arith, common_steps, false≢true)
       by (Some message) some passes = (message, some)

@@ -27,10 +27,7 @@ module _ {X : Type 0} (p : X → Bool) where
   position-push (x ∷ xs) new below = grind (arith, common_steps, position-push xs new)
 
   position-from : (xs : List X) (n : ℕ) → position_or_len p xs ≡ n → n < length xs → position p xs ≡ Some n
-  position-from xs n is below =
-      ap (λ (b : Bool). cond b (Some (position_or_len p xs)) None)
-      (lt-ltb (position_or_len p xs) (length xs) (omega (arith, is, below)))
-      ∙ ap Some is
+  position-from xs n is below = grind (arith, common_steps, lt-ltb)
 
 -- ---- who a wallet is
 
@@ -86,12 +83,7 @@ module _ (dig : List ℕ → List ℕ) (events : List Event) (world : World) (ke
             is_new = ap (slice_get (set world.nodes k new)) (sym same) ∙ set-same world.nodes k old new old_is;
             who = who-changed n node new node_is role (subst (λ (o : Node). GrowsAtMost o new) old_node grows);
           }
-      | inr apart ↦ record {
-        new = node;
-        number = placed;
-        is_new = set-other world.nodes k n new apart ∙ node_is;
-        who = refl;
-      }
+      | inr apart ↦ grind (arith, common_steps, placed, set-other)
     ]
       where
         placed : position passes (set world.nodes k new) ≡ Some n

@@ -1,11 +1,11 @@
 -- A start that a wallet offers is taken while the wallet holds the coin there.
-use Rattle.world_laws.proofs.Basics.{◌≡◌, ℕ, suc, ◌+◌, ◌-◌, ◌<◌, ◌==◌, not, Bool, true, false, if◌then◌else◌, List, [], ◌∷◌, ◌++◌, length, take, Option, Some, None, inl, inr, refl, sym, ap, ◌∙◌, subst, arith, rules, is_some, slice_get, option_map, option_map_or, AllByRecursion, eq-eqb, eqb-true, lt-ltb, ltb-true, and_from, not_from_true, true≢false, recursion_from_All, common_steps, some_same, got-has}
-use Rattle.world_laws.proofs.CoinWords.{Owner, RawOpening, SignedTx, Link, Links, Shown, AtDeposit, Spend, RootCall, StartDeposit, StartSpend, Answer, Refusal, CoinView, last_spend, tip_of, last_owner_of, now, coin_at, exit_at, block_of, is_withdrawn, EXIT_BOND, EXIT_PERIOD, Tests, Rules, tests_by, root_at, shown_tx, shown_owner, Cause, decided, too_poor, is_committed_after, is_parent_of, may_exit_at, start_spend_causes, where_coin, answer_to, is_accepted, ShowsTx, Bundle, opens_block, links_in, links_of, AreLinked, tip_from, owner_from, tip-is, last_owner-is, none-linked, tip_shown, Has, has-left, has-right, has-contains, contains-has}
+use Rattle.world_laws.proofs.Basics.{◌≡◌, ℕ, suc, ◌-◌, ◌<◌, Bool, true, false, if◌then◌else◌, List, [], ◌∷◌, ◌++◌, length, take, Option, Some, None, inl, inr, refl, sym, ap, ◌∙◌, subst, arith, rules, is_some, slice_get, option_map, option_map_or, AllByRecursion, eq-eqb, eqb-true, lt-ltb, ltb-true, and_from, not_from_true, true≢false, recursion_from_All, common_steps, some_same, got-has}
+use Rattle.world_laws.proofs.CoinWords.{Owner, RawOpening, SignedTx, Link, Links, Shown, AtDeposit, Spend, RootCall, StartDeposit, StartSpend, Answer, Refusal, CoinView, last_spend, tip_of, last_owner_of, coin_at, exit_at, block_of, is_withdrawn, EXIT_BOND, Tests, Rules, tests_by, root_at, shown_owner, Cause, decided, too_poor, is_committed_after, is_parent_of, answer_to, is_accepted, ShowsTx, Bundle, opens_block, links_in, links_of, AreLinked, tip_from, owner_from, tip-is, last_owner-is, none-linked, Has, has-left, has-right, has-contains, contains-has}
 use Rattle.world_laws.proofs.NodeWords.{kept_links, start_by, start_of, exit_block, due_for_kept}
 use Rattle.world_laws.proofs.WorldWords.{Event, Watches, Leaves, Seals, log_of, coin_of_call, wallet_owner, accepted, is_command_of, offered, offers_of, is_start, starter, IsTakenAt, IsTaken, ShowsTip, Taken, Bare, LegalLeave, IsLegal, LegalStartsAreTaken}
 use Rattle.world_laws.proofs.HeldCoins.{owner-stays, holding, is_noted, IsKept, kept-grow, deposited-coin}
-use Rattle.plasma_tx.specs.declared.answer.Answer.TheVariants.{Started, Refused}
-use Rattle.plasma_tx.specs.declared.answer.Refusal.TheVariants.{Withdrawn, BadBlock, NotOwner, ExitStands, BadOpening, NotChild, BadSignature}
+use Rattle.plasma_tx.specs.declared.answer.Answer.TheVariants.{Refused}
+use Rattle.plasma_tx.specs.declared.answer.Refusal.TheVariants.{ExitStands}
 use Rattle.plasma_tx.proofs.Acceptance.{transfers_are_shown}
 use Rattle.coin_history.proofs.HistoryShape.{links_rise}
 use Rattle.watch_duty.proofs.GuardLinks.{Rises, rises-from, has-above, links-opened}
@@ -46,12 +46,7 @@ split [] link is = absurd (cc is)
 split (x ∷ []) link is = record { front = []; whole = ap (λ y. y ∷ []) (some_same x link is); taken = refl }
 split (x ∷ y ∷ ys) link is =
     let e : length (x ∷ y ∷ ys) - 1 ≡ suc (length (y ∷ ys) - 1) = omega arith in
-    let r = split (y ∷ ys) link (sym (ap (slice_get (x ∷ y ∷ ys)) e) ∙ is) in
-    record {
-      front = x ∷ r.front;
-      whole = ap (λ l. x ∷ l) r.whole;
-      taken = ap (λ n. take n (x ∷ y ∷ ys)) e ∙ ap (λ l. x ∷ l) r.taken;
-    }
+    grind (arith, common_steps, split (y ∷ ys) link (sym (ap (slice_get (x ∷ y ∷ ys)) e) ∙ is))
 
 -- the last link spends what those before it end with
 split-linked : (tests : Tests) (block : ℕ) (owner : Owner) (front : List Link) (link : Link)
@@ -99,22 +94,7 @@ module _ (tests : Tests) (rules : Rules) (log : List RootCall) (b : Bundle) (mad
   unfolding answer_to
   spend-taken parent owner exit tx owner_is shown committed fits child signed to =
       let spend = transfers_are_shown tests rules log b.coin exit tx shown in
-      let effect : Answer = Started (now log + EXIT_PERIOD) in
-      subst (λ (o : Option CoinView). IsTakenAt log me.account b.coin exit.block (where_coin o (λ coin. decided
-      (start_spend_causes tests log me.account b.coin parent exit.block (shown_owner tests rules log b.coin parent)
-      (shown_tx tests rules log b.coin exit) coin) (Started (now log + EXIT_PERIOD))))) (sym found)
-      (subst (λ (p : Option Owner × Option SignedTx). IsTakenAt log me.account b.coin exit.block (decided
-      (start_spend_causes tests log me.account b.coin parent exit.block p.0 p.1 made)
-      (Started (now log + EXIT_PERIOD)))) (λ i. (sym owner_is i, sym spend i))
-      (skip-all (IsTakenAt log me.account b.coin exit.block)
-      ((is_withdrawn log b.coin, Withdrawn) ∷ (not (may_exit_at log made parent exit.block), BadBlock)
-      ∷ (false, BadOpening) ∷ (not (tx.body.parent == block_of parent), NotChild)
-      ∷ (not (tests.is_signed tx owner), BadSignature) ∷ (not (tx.body.to.account == me.account), NotOwner) ∷ [])
-      ((is_some (exit_at log b.coin exit.block), ExitStands) ∷ too_poor log me.account EXIT_BOND ∷ []) effect (
-        alive,
-        grind (arith, not_from_true, and_from, eq-eqb),
-      )
-      (last-causes log me.account b.coin exit.block effect refl)))
+      grind (arith, common_steps, skip-all, not_from_true, and_from, eq-eqb, last-causes)
 
   -- a link of the history is shown, and committed after the deposit
   link-shown : (link : Link) → Has (links_in rules b.coin b.openings) link
@@ -170,8 +150,7 @@ module _ (tests : Tests) (rules : Rules) (log : List RootCall) (b : Bundle) (mad
           (ap (option_map (λ (t : SignedTx). t.body.to))
           (transfers_are_shown tests rules log b.coin q.opening q.tx r.0)) s.0
           (and_from _ _ s.3 (lt-ltb _ _ s.2))
-          (and_from _ _ (and_from _ _ r.3 (lt-ltb _ _ r.2))
-          (lt-ltb _ _ (omega (arith, less, r.1, s.1)))) (chain.0 ∙ at ∙ sym r.1)
+          (grind (arith, common_steps, and_from, lt-ltb)) (chain.0 ∙ at ∙ sym r.1)
           (subst (λ w. tests.is_signed link.tx w ≡ true) owner chain.1) (ap (λ (w : Owner). w.account) to)
 
   start-taken : IsTaken log me.account (start_of me.account b.tip (links_of rules made b))
@@ -184,12 +163,7 @@ module _ (tests : Tests) (rules : Rules) (log : List RootCall) (b : Bundle) (mad
       by_last None none = grind (arith, common_steps, deposit-taken)
       by_last (Some link) some =
           let r = split (links_in rules b.coin b.openings) link some in
-          let to : link.tx.body.to ≡ me =
-          sym (ap (λ (o : Option Link). option_map_or (λ (l : Link). l.tx.body.to) o made.owner) some) ∙ mine in
-          subst (λ (ls : List Link). IsTakenAt log me.account b.coin link.opening.block
-          (answer_to tests rules log (StartSpend me.account b.coin
-          (tip_shown (record (links_of rules made b) { spends = ls })) link.opening))) (sym r.taken)
-          (by_parent link r.front r.whole to (slice_get r.front (length r.front - 1)) refl)
+          grind (arith, common_steps, by_parent)
 
 -- ---- a start on offer
 

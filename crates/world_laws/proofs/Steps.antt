@@ -1,6 +1,6 @@
 -- An accepted call keeps what holds of each exit of a held coin.
-use Rattle.world_laws.proofs.Basics.{◌≡◌, ◌≢◌, ◌⊎◌, ℕ, ◌+◌, ◌<◌, ◌≤◌, ◌==◌, not, Bool, true, false, if◌then◌else◌, List, [], ◌∷◌, ◌++◌, Some, inl, inr, refl, sym, ap, ◌∙◌, subst, arith, rules, is_some, is_none, nat_lt, AllByRecursion, eqb-true, cases_Bool, cases_eq, cases_order, eq-eqb, ltb-true, and_parts, and_from, true≢false, false_from_ne_true, common_steps, some_same, none_some, all-changed, found-has, challenge-has}
-use Rattle.world_laws.proofs.CoinWords.{Owner, RawOpening, Link, Shown, RootCall, Fund, Tick, Deposit, Commit, StartDeposit, StartSpend, After, Between, Before, Respond, Finish, CoinView, is_challenged_at, now, coin_at, coins, new_coin, Challenge, Exit, is_exit, exits, exit_at, block_of, spend_exit, without_exit, challenge_at, with_challenge, with_answer, new_challenge, CHALLENGE_WINDOW, RESPONSE_WINDOW, Tests, Rules, root_at, is_accepted, answer_to, is_parent_of, StartsDeposit, StartsSpend, Challenges, Responds, accepted_calls_show, exits_are_their_owners, responds_answer, all-append, all-filter, exits-distinct, shown_openings, openings_of_call, Has, has-left, has-right, all-has, only-found}
+use Rattle.world_laws.proofs.Basics.{◌≡◌, ◌≢◌, ◌⊎◌, ℕ, ◌+◌, ◌<◌, ◌≤◌, ◌==◌, Bool, true, false, if◌then◌else◌, List, [], ◌∷◌, ◌++◌, Some, inl, inr, refl, sym, ap, ◌∙◌, subst, arith, rules, is_some, is_none, nat_lt, AllByRecursion, eqb-true, cases_Bool, cases_eq, cases_order, eq-eqb, ltb-true, and_parts, and_from, true≢false, false_from_ne_true, common_steps, some_same, none_some, all-changed, found-has, challenge-has}
+use Rattle.world_laws.proofs.CoinWords.{Owner, RawOpening, Link, Shown, RootCall, Fund, Tick, Deposit, Commit, StartDeposit, StartSpend, After, Between, Before, Respond, Finish, CoinView, now, coin_at, coins, Challenge, Exit, exits, exit_at, block_of, spend_exit, without_exit, challenge_at, with_challenge, with_answer, new_challenge, new_coin, is_exit, CHALLENGE_WINDOW, RESPONSE_WINDOW, Tests, Rules, root_at, is_accepted, answer_to, is_parent_of, StartsDeposit, StartsSpend, Challenges, Responds, accepted_calls_show, exits_are_their_owners, responds_answer, all-append, all-filter, exits-distinct, shown_openings, openings_of_call, Has, has-left, has-right, all-has, only-found, is_challenged_at}
 use Rattle.world_laws.proofs.NodeWords.{exit_block}
 use Rattle.world_laws.proofs.WorldWords.{Event, log_of, coin_of_call, wallet_owner, bound_by, seen, forges_one, is_mine, starts_by, IsLegal, IfOf, AllWatched}
 use Rattle.world_laws.proofs.HeldCoins.{walk-passes, place_of, IsShownAt, Deposited, Transferred, IsShownChallenge, IsBegun, OfDeposit, OfSpend, legal-log, legal-table, all_shown, parent_shown, SignsBy, HeldAt, shown_same}
@@ -194,10 +194,8 @@ module _ (tests : Tests) (rules : Rules) (signs : SignsBy tests) (events : List 
   keeps-StartSpend account k parent exit own has none is all =
       all-append (IfOf c at.hold.me e (now (log_of events))) (without_exit k exit.block (exits (log_of events)))
       (spend_exit (log_of events) account k parent exit)
-      (all-filter (IfOf c at.hold.me e (now (log_of events))) (λ (x : Exit). not (is_exit k exit.block x))
-      (exits (log_of events)) all)
-      (λ c_is. new-watched c at.hold.me e (now (log_of events)) (spend_exit (log_of events) account k parent exit)
-      (spends_not c_is) (λ mine. own mine c_is) refl refl)
+      (grind (arith, common_steps, all-filter))
+      (grind (arith, common_steps, new-watched, spends_not))
     where
       spends_not : k ≡ c → block_of parent ≡ e → ⊥
       spends_not c_is at_tip =
@@ -243,9 +241,7 @@ module _ (tests : Tests) (rules : Rules) (signs : SignsBy tests) (events : List 
     where
       named : (x : Exit) (new : Challenge) → is_some (challenge_at new.block x.challenges) ≡ false
           → (with_challenge new x).coin ≡ c → x.coin ≡ c
-      named x new none c_is =
-          ap (λ (b : Bool). (if b then x else record x { challenges = x.challenges ++ new ∷ [] }).coin) (sym none)
-          ∙ c_is
+      named x new none c_is = grind (arith, common_steps)
 
   -- an answer
   keeps-Respond : (account k f challenged : ℕ) (spend : RawOpening)
@@ -300,18 +296,12 @@ module _ (tests : Tests) (rules : Rules) (signs : SignsBy tests) (events : List 
   keeps (StartSpend account k parent exit) own has none ticks is all =
       keeps-StartSpend account k parent exit own has none
       (accepted_calls_show tests rules (log_of events) (StartSpend account k parent exit) is) all
-  keeps (After account k f spend) own has none ticks is all =
-      all-filter (IfOf c at.hold.me e (now (log_of events))) (λ (x : Exit). not (is_exit k f x))
-      (exits (log_of events)) all
-  keeps (Between account k f spend) own has none ticks is all =
-      all-filter (IfOf c at.hold.me e (now (log_of events))) (λ (x : Exit). not (is_exit k f x))
-      (exits (log_of events)) all
+  keeps (After account k f spend) own has none ticks is all = grind (arith, common_steps, all-filter)
+  keeps (Between account k f spend) own has none ticks is all = grind (arith, common_steps, all-filter)
   keeps (Before account k f shown) own has none ticks is all =
       keeps-Before account k f shown
       (accepted_calls_show tests rules (log_of events) (Before account k f shown) is) all
   keeps (Respond account k f challenged spend) own has none ticks is all =
       keeps-Respond account k f challenged spend has none
       (accepted_calls_show tests rules (log_of events) (Respond account k f challenged spend) is) all
-  keeps (Finish account k f) own has none ticks is all =
-      all-filter (IfOf c at.hold.me e (now (log_of events))) (λ (x : Exit). not (is_exit k f x))
-      (exits (log_of events)) all
+  keeps (Finish account k f) own has none ticks is all = grind (arith, common_steps, all-filter)

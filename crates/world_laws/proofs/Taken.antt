@@ -1,5 +1,5 @@
 -- A coin that was taken went unseen before at some tick, unless the events exhibit.
-use Rattle.world_laws.proofs.Basics.{◌≡◌, ℕ, true, false, if◌then◌else◌, List, [], ◌∷◌, ◌++◌, Option, Some, None, inl, inr, refl, sym, ap, ◌∙◌, arith, rules, is_none, option_or, cases_Bool, and_from, not_from_false, false≢true, common_steps, some_same, none_some, append-assoc}
+use Rattle.world_laws.proofs.Basics.{◌≡◌, ℕ, true, false, if◌then◌else◌, List, [], ◌∷◌, ◌++◌, Option, Some, None, inl, inr, refl, ap, ◌∙◌, arith, rules, sym, is_none, option_or, cases_Bool, and_from, not_from_false, false≢true, common_steps, some_same, none_some, append-assoc}
 use Rattle.world_laws.proofs.CoinWords.{Owner, Rules, tests_by}
 use Rattle.world_laws.proofs.WorldWords.{VerdictKind, Exhibit, IsDigest, Event, wallet_owner, exhibit_of, takes_from, before_taking, first_unattended, exit_was_paid, lost_or, verdict_at, IsLegal, LegalLostIsExhibited, goes_unseen, is_looked_after, is_taken_kind}
 use Rattle.world_laws.proofs.Attended.{attended_are_looked_after}
@@ -80,10 +80,7 @@ module _ (dig : List ℕ → List ℕ) (rules : Rules) (events : List Event) (w 
       let shown = nothing-exhibited dig rules.tag events nothing in
       never-lost dig digest rules me w c e events legal (no-clash dig events c shown.0)
       (no-forgery rules.tag events w c shown.1)
-      (record {
-        same = λ other other_is. some_same other me (sym other_is ∙ me_is);
-        none = λ undeclared. absurd (none_some me (sym undeclared ∙ me_is));
-      }) t.unpaid t.before t.taken looked
+      (grind (arith, common_steps, some_same, none_some)) t.unpaid t.before t.taken looked
 
   pub taken_unseen : is_taken_kind (verdict_at (tests_by dig) rules events me w c e) ≡ true → HasUnseen events w c e
   taken_unseen is =
@@ -91,13 +88,7 @@ module _ (dig : List ℕ → List ℕ) (rules : Rules) (events : List Event) (w 
       let kind : VerdictKind = verdict_at (tests_by dig) rules events me w c e in
       let s = taking-suffix dig rules me w c e events t.before t.taken in
       let u = some-unseen t.before w c e (looked-untaken kind t) in
-      record {
-        later = s.0 ++ u.later;
-        event = u.event;
-        earlier = u.earlier;
-        events_are = s.1 ∙ ap (λ l. s.0 ++ l) u.events_are ∙ append-assoc s.0 u.later (u.event ∷ u.earlier);
-        unseen = u.unseen;
-      }
+      grind (arith, common_steps, append-assoc)
 
 pub lost_is_exhibited : LegalLostIsExhibited
 lost_is_exhibited dig rules events w c e me digest legal me_is lost nothing =

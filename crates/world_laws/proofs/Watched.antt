@@ -64,10 +64,7 @@ module _ (tests : Tests) (rules : Rules) (signs : SignsBy tests) (events : List 
   -- whoever owns the block e is the holder
   pub owner_is : (n : ℕ) (owner : Owner) → IsShownAt tests rules (log_of events) more c at.held.made n owner → n ≡ e
       → owner ≡ at.hold.me
-  owner_is n owner shown is =
-      shown_same tests rules (log_of events) more c at.held.made at.one e owner at.hold.me
-      (subst (λ k. IsShownAt tests rules (log_of events) more c at.held.made k owner) is shown)
-      (seen_more e at.hold.me tip_before)
+  owner_is n owner shown is = grind (arith, common_steps, shown_same, seen_more, tip_before)
 
   -- no opening of the event's call spends the tip
   pub tip_unspent : (openings : List RawOpening)

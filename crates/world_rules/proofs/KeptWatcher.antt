@@ -101,11 +101,11 @@ any-released a t c e one other same = at ((a == c) && (t == e)) refl
 
 -- ---- commands
 
-abbrev taken_of : Links → Accepted
+abbrev pub taken_of : Links → Accepted
 taken_of links = record { coin = links.coin; tip = tip_of links }
 
 -- a guard is refused, or its links are guarded already, or are noted
-data GuardEnds (dig : List ℕ → List ℕ) (records : List (List ℕ)) (log : List RootCall) (bytes : List ℕ)
+pub data GuardEnds (dig : List ℕ → List ℕ) (records : List (List ℕ)) (log : List RootCall) (bytes : List ℕ)
     (effect : Effect (Result Accepted WatcherRefusal)) : Type 0 where
   Refused : (why : WatcherRefusal) → effect ≡ only (Err why) → GuardEnds dig records log bytes effect
   Known : (links : Links) → links_handed dig (who_is records).tag log bytes ≡ Ok links
@@ -115,7 +115,7 @@ data GuardEnds (dig : List ℕ → List ℕ) (records : List (List ℕ)) (log : 
       → effect ≡ record { answer = Ok (taken_of links); note = Some (note_text (Guarded (kept_of links))) }
       → GuardEnds dig records log bytes effect
 
-guard_ends : (dig : List ℕ → List ℕ) (records : List (List ℕ)) (log : List RootCall) (bytes : List ℕ)
+pub guard_ends : (dig : List ℕ → List ℕ) (records : List (List ℕ)) (log : List RootCall) (bytes : List ℕ)
     → GuardEnds dig records log bytes (guard_effect dig records log bytes)
 unfolding guard_effect
 guard_ends dig records log bytes = at (links_handed dig (who_is records).tag log bytes) refl

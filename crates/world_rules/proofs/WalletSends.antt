@@ -52,7 +52,7 @@ module _ (dig : List ℕ → List ℕ) (s : Said) (log : List RootCall) (wallet 
         KeptWallet dig (told (wallet_told n (WalletOrder.Send coin to last) on_sent effect.answer) s) log
         (after effect wallet)
 
-    sent-is : (tip : ℕ) → coin_state dig wallet log coin ≡ Held tip → IsBody (sent_body wallet coin tip to last)
+    pub sent-is : (tip : ℕ) → coin_state dig wallet log coin ≡ Held tip → IsBody (sent_body wallet coin tip to last)
     sent-is tip held = record {
       tag = tag-long dig wallet.notes (wallet-parts dig wallet kept.is).role;
       coin = coin_fits;
