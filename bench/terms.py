@@ -157,13 +157,29 @@ def part_terms(code, at, end):
 BEHIND = {"let": let_terms, "↦": arm_terms, "in": body_terms, "{": field_terms, "(": part_terms}
 
 
-def known_in(text):
-    """The names of lemmas that a file declares, or imports from proofs."""
+def has_lemmas(path):
+    """Whether what is imported from this module may be a lemma; std's most used names are mostly none."""
+    return ".proofs." in path and not path.endswith(".proofs.Common")
+
+
+def passed_on(texts):
+    """What lemma files pass on by `pub use` and is no lemma, by the names of these files."""
+    found = {}
+    for file, text in texts.items():
+        items = [item for item in antt.items_of(text) if item.word == "use"] if "pub use " in text else []
+        words = [item for item in items if not has_lemmas(antt.USE.match(antt.joined(item))[2])]
+        found[file] = {it.name for item in words for it in antt.imports_of(item) if it.passed}
+    return found
+
+
+def known_in(text, words=None):
+    """The names of lemmas that a file declares, or imports from proofs, but for words that the file there passes on."""
     found = {it.name for it in lemmas_of(text)}
     for item in antt.items_of(text):
         path = antt.USE.match(antt.joined(item))[2] if item.word == "use" else ""
-        if ".proofs." in path and not path.endswith(".proofs.Common"):
-            found |= {it.name for it in antt.imports_of(item) if antt.PLACE not in it.name and not it.name[0].isupper()}
+        if has_lemmas(path):
+            names = {it.name for it in antt.imports_of(item)} - (words or {}).get(path.rpartition(".")[2], set())
+            found |= {name for name in names if antt.PLACE not in name and not name[0].isupper()}
     return found
 
 

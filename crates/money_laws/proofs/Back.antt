@@ -1,32 +1,11 @@
 -- Bonds come back.
-use Rattle.std.proofs.Common.{◌≡◌, ℕ, ◌≤◌, ◌==◌, not, true, false, List, [], ◌∷◌, Some, inl, inr, refl, sym, ◌∙◌, subst, arith, rules}
-use Rattle.std.specs.List.{list_all}
-use Rattle.std.proofs.lemmas.Bool.{eqb-true, eq-eqb, and_parts, not_from_false, true≢false, false≢true}
-use Rattle.std.proofs.lemmas.Grind.{common_steps}
-use Rattle.plasma_tx.specs.declared.rules.TheConstants.{CHALLENGE_BOND}
-use Rattle.plasma_tx.specs.declared.opening.RawOpening.{RawOpening}
-use Rattle.plasma_tx.specs.declared.call.RootCall.{RootCall}
-use Rattle.plasma_tx.specs.declared.call.RootCall.TheVariants.{After, Between, Finish}
+use Rattle.money_laws.proofs.Basics.{◌≡◌, ℕ, ◌≤◌, ◌==◌, not, true, false, List, [], ◌∷◌, Some, inl, inr, refl, sym, ◌∙◌, subst, arith, rules, list_all, eqb-true, eq-eqb, and_parts, not_from_false, true≢false, false≢true, common_steps}
+use Rattle.money_laws.proofs.CoinWords.{CHALLENGE_BOND, RawOpening, RootCall, After, Between, Finish, Cancelled, Paid, is_end, Challenge, Exit, exits, exit_at, has_no_open_challenge, is_withdrawn, Tests, Rules, tests_by, rules_of, Cause, decided, answer_to, is_paid, open_challenges, challenge_bonds, share_of, paid_exactly, Has, has-contains, contains-has}
+use Rattle.money_laws.proofs.WorldWords.{Joins, log_of, collides, some_same, found-has, passes-has, has-kept, none-before, forged-parts, legal-before, due_calls_are_taken, LegalBondsComeBack, BondsComeBack, cancels, LegalCancelsNeedNoMoney, CancelsNeedNoMoney, legal-to}
 use Rattle.plasma_tx.specs.declared.answer.Answer.{Answer}
-use Rattle.plasma_tx.specs.declared.answer.Answer.TheVariants.{Cancelled, Paid}
-use Rattle.plasma_tx.specs.Laws.{is_end}
-use Rattle.plasma_tx.specs.Views.{Challenge, Exit, exits, exit_at, has_no_open_challenge, is_withdrawn}
-use Rattle.plasma_tx.specs.Shown.{Tests, Rules, tests_by, rules_of}
-use Rattle.plasma_tx.specs.Table.{Cause, decided, answer_to}
-use Rattle.plasma_tx.specs.RuleLaws.{is_paid}
-use Rattle.plasma_tx.specs.Money.{open_challenges, challenge_bonds, share_of}
-use Rattle.plasma_tx.proofs.Ends.{paid_exactly}
-use Rattle.watch_duty.proofs.Members.{Has, has-contains, contains-has}
-use Rattle.world_rules.specs.Events.{Joins, log_of}
-use Rattle.world_rules.specs.Exhibits.{collides}
 use Rattle.world_laws.specs.Headline.{lacks_bond}
-use Rattle.world_laws.proofs.Lists.{some_same, found-has, passes-has}
-use Rattle.world_laws.proofs.Before.{none-before, forged-parts, legal-before}
-use Rattle.world_laws.proofs.DueCalls.{has-kept}
-use Rattle.world_laws.proofs.DueTaken.{due_calls_are_taken}
-use Rattle.money_laws.specs.MoneyLaws.{LegalBondsComeBack, BondsComeBack, cancels, LegalCancelsNeedNoMoney, CancelsNeedNoMoney}
 use Rattle.money_laws.proofs.Ends.{ends_pay_bonds}
-use Rattle.money_laws.proofs.Tips.{tips_stay_open, legal-to}
+use Rattle.money_laws.proofs.Tips.{tips_stay_open}
 
 -- a challenge's bond is among those of its account
 own-bond : (challenges : List Challenge) (challenge : Challenge) → Has challenges challenge

@@ -1,38 +1,7 @@
 -- The worked lists up to the stranger's exits are legal, and show neither a clash nor a forgery.
-use Rattle.std.proofs.Common.{◌≡◌, ℕ, zero, suc, ◌+◌, ◌-◌, ◌^◌, ◌<◌, ◌==◌, ◌&&◌, Bool, true, false, if◌then◌else◌, nat_lt, List, [], ◌∷◌, ◌++◌, Some, None, inr, refl, sym, ap, ◌∙◌, subst, arith}
-use Rattle.std.specs.Prelude.{replicate, length, slice_index_or, is_some, not}
-use Rattle.std.specs.List.{AllByRecursion, list_any}
-use Rattle.std.specs.Option.{option_map}
-use Rattle.std.proofs.lemmas.Bool.{cases_Bool, ltb-true, and_parts, or_parts, eq-eqb, true≢false}
-use Rattle.std.proofs.lemmas.List.Elements.{All-from_recursion}
-use Rattle.std.proofs.lemmas.Grind.{common_steps}
-use Rattle.lms_sign.specs.Types.{u32_at}
-use Rattle.sparse_merkle.specs.MaskedPath.{proof_path}
-use Rattle.sparse_merkle.specs.Opening.{hashed_strings}
-use Rattle.plasma_tx.specs.declared.rules.TheConstants.{EXIT_BOND}
-use Rattle.plasma_tx.specs.declared.owner.Owner.{Owner}
-use Rattle.plasma_tx.specs.declared.body.Body.{Body}
-use Rattle.plasma_tx.specs.declared.signed_tx.SignedTx.{SignedTx}
-use Rattle.plasma_tx.specs.declared.opening.RawOpening.{RawOpening}
-use Rattle.plasma_tx.specs.declared.call.Shown.TheVariants.{Spend}
-use Rattle.plasma_tx.specs.declared.call.RootCall.{RootCall}
-use Rattle.plasma_tx.specs.declared.call.RootCall.TheVariants.{StartSpend}
-use Rattle.plasma_tx.specs.declared.views.CoinView.{CoinView}
-use Rattle.plasma_tx.specs.Spelling.{AreBytes, IsOwner, IsBody, owner_text, body_text, signed_text}
-use Rattle.plasma_tx.specs.Transfer.{is_signed_by}
-use Rattle.plasma_tx.specs.Views.{now, blocks, coins, block_at, coin_at, responses, exits, exit_at, is_withdrawn}
-use Rattle.plasma_tx.specs.Shown.{root_at, shown_owner}
-use Rattle.plasma_tx.specs.Table.{answer_to, is_accepted, may_exit_at}
-use Rattle.plasma_tx.specs.Money.{pays, takes, share_of, balance_of, funded}
-use Rattle.sparse_merkle.specs.TreeDigest.{leaf_string}
-use Rattle.world_rules.specs.Laws.{IsDigest}
-use Rattle.world_rules.specs.Events.{Event, Declares, Joins, log_of, wallet_owner, bound_by}
-use Rattle.world_rules.specs.Exhibits.{openings_of, seen, strings_in, strings_up, strings_of, has_clash, collides, is_same_body, forges, forges_transfer, is_forged}
-use Rattle.watch_duty.proofs.Members.{Has}
-use Rattle.world_laws.specs.Legal.{starts_by, LegalCall, IsLegal}
-use Rattle.world_laws.proofs.Lists.{some_same, none_some}
-use Rattle.money_laws.specs.Samples.{me, stranger, tag, rules, transfer, signed, unsigned, byte, print, digest, alone, root_with, shows, planted, hidden, taken, began, exit_one, attacked}
-use Rattle.money_laws.specs.Worked.{tests}
+use Rattle.money_laws.proofs.Basics.{◌≡◌, ℕ, zero, suc, ◌+◌, ◌-◌, ◌^◌, ◌<◌, ◌==◌, ◌&&◌, Bool, true, false, if◌then◌else◌, nat_lt, List, [], ◌∷◌, ◌++◌, Some, None, inr, refl, sym, ap, ◌∙◌, subst, arith, replicate, length, slice_index_or, is_some, not, AllByRecursion, list_any, option_map, cases_Bool, ltb-true, and_parts, or_parts, eq-eqb, true≢false, All-from_recursion, common_steps}
+use Rattle.money_laws.proofs.CoinWords.{u32_at, proof_path, hashed_strings, EXIT_BOND, Owner, Body, SignedTx, RawOpening, Spend, RootCall, StartSpend, CoinView, AreBytes, IsOwner, IsBody, owner_text, body_text, signed_text, is_signed_by, now, blocks, coins, block_at, coin_at, responses, exits, exit_at, is_withdrawn, root_at, shown_owner, answer_to, is_accepted, may_exit_at, pays, takes, share_of, balance_of, funded, leaf_string, Has}
+use Rattle.money_laws.proofs.WorldWords.{IsDigest, Event, Declares, Joins, log_of, wallet_owner, bound_by, openings_of, seen, strings_in, strings_up, strings_of, has_clash, collides, is_same_body, forges, forges_transfer, is_forged, starts_by, LegalCall, IsLegal, some_same, none_some, me, stranger, tag, rules, transfer, signed, unsigned, byte, print, digest, alone, root_with, shows, planted, hidden, taken, began, exit_one, attacked, tests}
 use Rattle.money_laws.proofs.Shows.{key_long, signature_long, signs, signs_not, unsigned_not, IsWorked, read, transfer_shown, shown}
 use Rattle.money_laws.proofs.Clear.{clear}
 use Rattle.money_laws.proofs.Taken.{start-taken}
@@ -74,8 +43,7 @@ pub me-owner : IsOwner me
 me-owner = record { account = omega arith; key = refl }
 
 body-of : (coin from : ℕ) (to : Owner) → coin < 2 ^ 64 → from < 2 ^ 64 → IsOwner to → IsBody (transfer coin from to)
-body-of coin from to small low owner =
-    record { tag = refl; coin = small; parent = low; to = owner; last = tt }
+body-of coin from to small low owner = record { tag = refl; coin = small; parent = low; to = owner; last = tt }
 
 pub unsigned-worked : (coin from : ℕ) (to : Owner) → coin < 2 ^ 64 → from < 2 ^ 64 → IsOwner to
     → IsWorked (unsigned (transfer coin from to))

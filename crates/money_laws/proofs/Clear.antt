@@ -1,19 +1,10 @@
 -- No two strings of the worked openings have one digest: what the digest keeps says at which level of which leaf's way
 -- up a string stands.
-use Rattle.std.proofs.Common.{◌≡◌, ℕ, zero, suc, ◌+◌, ◌<◌, ◌==◌, ◌||◌, not, Bool, true, false, if◌then◌else◌, List, [], ◌∷◌, slice_index_or, inl, inr, refl, sym, ap, ◌∙◌, arith}
-use Rattle.std.specs.List.{list_any, flat_map, range_with_len}
-use Rattle.std.specs.Str.{bytes_eq}
-use Rattle.std.proofs.lemmas.Bool.{lt-ltb, and_parts, false_from_ne_true, true≢false}
+use Rattle.money_laws.proofs.Basics.{◌≡◌, ℕ, zero, suc, ◌+◌, ◌<◌, ◌==◌, ◌||◌, not, Bool, true, false, if◌then◌else◌, List, [], ◌∷◌, slice_index_or, inl, inr, refl, sym, ap, ◌∙◌, arith, list_any, flat_map, range_with_len, bytes_eq, lt-ltb, and_parts, false_from_ne_true, true≢false, bytes_eq-Decides, common_steps}
+use Rattle.money_laws.proofs.CoinWords.{proof_path, sibling_at, parent_string, hashed_string, hashed_strings, bit_of, leaf_string, node_string, subtree_digest, default_digest, Has, has-map, has-flat_map}
+use Rattle.money_laws.proofs.WorldWords.{do_clash, has_clash, byte, print, digest, alone}
 use Rattle.std.proofs.lemmas.List.FromFn.{get_or-map-range_with_len}
 use Rattle.std.proofs.lemmas.Nat.Bits.{bit_at-zero}
-use Rattle.std.proofs.lemmas.Slice.Eq.{bytes_eq-Decides}
-use Rattle.std.proofs.lemmas.Grind.{common_steps}
-use Rattle.sparse_merkle.specs.MaskedPath.{proof_path, sibling_at}
-use Rattle.sparse_merkle.specs.Opening.{parent_string, hashed_string, hashed_strings}
-use Rattle.sparse_merkle.specs.TreeDigest.{bit_of, leaf_string, node_string, subtree_digest, default_digest}
-use Rattle.watch_duty.proofs.Members.{Has, has-map, has-flat_map}
-use Rattle.world_rules.specs.Exhibits.{do_clash, has_clash}
-use Rattle.money_laws.specs.Samples.{byte, print, digest, alone}
 
 pub byte-is : (n : ℕ) → n < 256 → byte n ≡ n
 byte-is n small = ap (λ b. if b then n else 0) (lt-ltb n 256 small)

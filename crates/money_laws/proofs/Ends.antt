@@ -1,14 +1,7 @@
 -- What each account has after an exit ended.
-use Rattle.std.proofs.Common.{◌≡◌, ℕ, ◌+◌, ◌==◌, ◌&&◌, cond, not, Bool, true, false, if◌then◌else◌, List, [], ◌∷◌, Some, refl, filter, arith}
-use Rattle.std.specs.List.{list_all}
-use Rattle.std.proofs.lemmas.Bool.{eqb-true, and_parts, false≢true}
-use Rattle.std.proofs.lemmas.Grind.{common_steps}
-use Rattle.plasma_tx.specs.declared.rules.TheConstants.{EXIT_BOND}
-use Rattle.plasma_tx.specs.declared.call.RootCall.{RootCall}
-use Rattle.plasma_tx.specs.declared.call.RootCall.TheVariants.{After, Between, Finish}
-use Rattle.plasma_tx.specs.Views.{Challenge, Exit, exit_at}
-use Rattle.plasma_tx.specs.Money.{challenge_bonds, cancel_pays, payout, pays, takes, share_of, balance_of}
-use Rattle.money_laws.specs.Bonds.{bonds_at, first_or, if_to, EndsPayBonds}
+use Rattle.money_laws.proofs.Basics.{◌≡◌, ℕ, ◌+◌, ◌==◌, ◌&&◌, cond, not, Bool, true, false, if◌then◌else◌, List, [], ◌∷◌, Some, refl, filter, arith, list_all, eqb-true, and_parts, false≢true, common_steps}
+use Rattle.money_laws.proofs.CoinWords.{EXIT_BOND, RootCall, After, Between, Finish, Challenge, Exit, exit_at, challenge_bonds, cancel_pays, payout, pays, takes, share_of, balance_of}
+use Rattle.money_laws.proofs.WorldWords.{bonds_at, first_or, if_to, EndsPayBonds}
 
 -- the amount, where it is so
 abbrev part : Bool → ℕ → ℕ

@@ -1,25 +1,9 @@
 -- Befores that are ready are accepted one after the other, where the account has the reserve.
-use Rattle.std.proofs.Common.{◌≡◌, ℕ, ◌+◌, ◌≤◌, ◌==◌, Bool, true, false, if◌then◌else◌, List, [], ◌∷◌, Some, None, inl, inr, ◌⊎◌, refl, sym, subst, arith, rules}
-use Rattle.std.specs.List.{list_any}
-use Rattle.std.proofs.lemmas.Bool.{eqb-true, and_parts, false≢true}
-use Rattle.std.proofs.lemmas.Grind.{common_steps}
-use Rattle.plasma_tx.specs.declared.rules.TheConstants.{CHALLENGE_BOND}
-use Rattle.plasma_tx.specs.declared.call.Shown.{Shown}
-use Rattle.plasma_tx.specs.declared.call.RootCall.{RootCall}
-use Rattle.plasma_tx.specs.declared.call.RootCall.TheVariants.{After, Between, Before, Respond}
-use Rattle.plasma_tx.specs.Views.{now, block_at, coin_at, Exit, exits, exit_at, block_of, challenge_at, with_answer}
-use Rattle.plasma_tx.specs.Shown.{Tests, Rules, shown_tx}
-use Rattle.plasma_tx.specs.Table.{answer_to, is_accepted, log_after}
-use Rattle.plasma_tx.specs.RuleLaws.{is_of_exit}
-use Rattle.plasma_tx.specs.Money.{takes, share_of, balance_of}
-use Rattle.plasma_tx.proofs.Accepted.{accepted_calls_show}
+use Rattle.money_laws.proofs.Basics.{◌≡◌, ℕ, ◌+◌, ◌≤◌, ◌==◌, Bool, true, false, if◌then◌else◌, List, [], ◌∷◌, Some, None, inl, inr, ◌⊎◌, refl, sym, subst, arith, rules, list_any, eqb-true, and_parts, false≢true, common_steps}
+use Rattle.money_laws.proofs.CoinWords.{CHALLENGE_BOND, Shown, RootCall, After, Between, Before, Respond, now, block_at, coin_at, Exit, exits, exit_at, block_of, challenge_at, with_answer, Tests, Rules, shown_tx, answer_to, is_accepted, log_after, is_of_exit, takes, share_of, balance_of, accepted_calls_show, Has}
+use Rattle.money_laws.proofs.WorldWords.{any-none, is_none-answered, asks, reserve, Tip, reserve_of, is_at_tip, is_same_before, is_before_at, is_free, is_before_of, is_before, BeforesAreAccepted}
 use Rattle.plasma_tx.proofs.Acceptance.{shown_calls_are_accepted}
 use Rattle.plasma_tx.proofs.RuleLeaves.{others_leave_exits}
-use Rattle.watch_duty.proofs.Members.{Has}
-use Rattle.world_laws.proofs.Lists.{any-none}
-use Rattle.world_laws.proofs.Watched.{is_none-answered}
-use Rattle.money_laws.specs.Reserve.{asks, reserve, Tip, reserve_of, is_at_tip}
-use Rattle.money_laws.specs.MoneyLaws.{is_same_before, is_before_at, is_free, is_before_of, is_before, BeforesAreAccepted}
 use Rattle.money_laws.proofs.SumsOver.{ended, changed}
 use Rattle.money_laws.proofs.Reserves.{bond_if, tip-one, Could, could-asks, could-reserve, all-less, taken, could-after}
 

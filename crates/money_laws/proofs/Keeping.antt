@@ -1,33 +1,11 @@
 -- Who keeps a coin: what is known of it, and what was before an event.
-use Rattle.std.proofs.Common.{◌≡◌, ◌≢◌, ◌⊎◌, ℕ, ◌+◌, ◌<◌, ◌==◌, true, false, if◌then◌else◌, List, [], ◌∷◌, Some, inl, inr, refl, sym, ap, ◌∙◌, subst, arith, rules}
-use Rattle.std.specs.List.{list_any}
-use Rattle.std.proofs.lemmas.Bool.{cases_eq, eq-eqb, ne_eqb, eqb-true, and_parts, or_cases, or_left, or_right, not-true, true≢false, false≢true, false_from_ne_true}
-use Rattle.std.proofs.lemmas.Grind.{common_steps}
-use Rattle.plasma_tx.specs.declared.owner.Owner.{Owner}
-use Rattle.plasma_tx.specs.declared.body.Body.{Body}
-use Rattle.plasma_tx.specs.declared.opening.RawOpening.{RawOpening}
-use Rattle.plasma_tx.specs.declared.call.RootCall.{RootCall}
-use Rattle.plasma_tx.specs.declared.call.RootCall.TheVariants.{Deposit}
-use Rattle.plasma_tx.specs.declared.views.CoinView.{CoinView}
-use Rattle.plasma_tx.specs.Views.{coins, coin_at, new_coin, exits}
-use Rattle.plasma_tx.specs.Shown.{Tests, Rules, tests_by}
-use Rattle.plasma_tx.specs.Links.{last_owner_of}
-use Rattle.plasma_tx.proofs.Bounds.{coin_at-le}
-use Rattle.watch_duty.proofs.Members.{Has}
-use Rattle.world_rules.specs.Laws.{IsDigest}
-use Rattle.world_rules.specs.Events.{Event, Declares, Joins, Accepts, Binds, TakesBack, log_of, wallet_owner, accepted, bound_by, taken_back, not_taken, leaf_at, signed_away_by, is_sent_from, is_bundle}
-use Rattle.world_rules.specs.Exhibits.{seen, strings_of, has_clash, forges_one}
-use Rattle.world_rules.specs.Safety.{was_deposited}
-use Rattle.world_laws.specs.Legal.{deposits_by, IsLegal}
-use Rattle.world_laws.proofs.Lists.{some_same, none_some, any-some}
+use Rattle.money_laws.proofs.Basics.{◌≡◌, ◌≢◌, ◌⊎◌, ℕ, ◌<◌, ◌==◌, true, false, if◌then◌else◌, List, ◌∷◌, Some, inl, inr, refl, sym, ap, ◌∙◌, subst, arith, rules, list_any, cases_eq, ne_eqb, eqb-true, and_parts, or_cases, not-true, true≢false, false≢true, false_from_ne_true, common_steps}
+use Rattle.money_laws.proofs.CoinWords.{Owner, Body, RawOpening, Deposit, coin_at, exits, Tests, Rules, tests_by, last_owner_of, coin_at-le, Has}
+use Rattle.money_laws.proofs.WorldWords.{IsDigest, Event, Declares, Joins, Accepts, Binds, TakesBack, log_of, wallet_owner, accepted, bound_by, taken_back, not_taken, leaf_at, signed_away_by, is_sent_from, is_bundle, seen, strings_of, has_clash, forges_one, was_deposited, IsLegal, some_same, none_some, any-some, IsShownAt, all_shown, seen-grow, SignsBy, is_noted, owner-is, line_bound, unspent, NoneStands, none-stands, none-before, deposit-caller, IsSpend, keeps}
 use Rattle.world_laws.proofs.Clash.{HasOneLeaf, one_leaf}
-use Rattle.world_laws.proofs.Shown.{IsShownAt, all_shown, seen-grow}
 use Rattle.world_laws.proofs.Absences.{names, away-untake, away-unbind, IsParted, parted, back-more}
-use Rattle.world_laws.proofs.Bound.{SignsBy, is_noted, owner-is, line_bound, unspent}
-use Rattle.world_laws.proofs.Held.{Known, HeldAt, known-from, bundle-named, deposited-coin, empty-walk, end_shown, shown_same}
-use Rattle.world_laws.proofs.Before.{NoneStands, none-stands, none-before}
-use Rattle.world_laws.proofs.Watched.{IsSpend}
-use Rattle.money_laws.specs.Keepers.{keeps}
+use Rattle.world_laws.proofs.Held.{Known, HeldAt, known-from, deposited-coin, empty-walk, end_shown, shown_same}
+use Rattle.world_rules.proofs.WalletAccepts.{bundle-is}
 
 -- what it is to keep
 pub record Keeping (events : List Event) (w c e : ℕ) : Type 0 where
@@ -46,12 +24,11 @@ pub kept_at : (tests : Tests) (rules : Rules) (events : List Event) (w c e : ℕ
     → (h : Keeping events w c e) → HeldAt tests rules events w c e h.me
 kept_at tests rules events w c e legal h =
     elim h.source [
-      | inl deposited ↦
-          grind (arith, common_steps, deposited-coin, empty-walk)
+      | inl deposited ↦ grind (arith, common_steps, deposited-coin, empty-walk)
       | inr accepted_is ↦
           let r = any-some (is_bundle c e) (accepted events w) accepted_is in
           let n = is_noted tests rules events w r.0 legal r.1 in
-          let name = bundle-named c e r.0 r.2 in
+          let name = bundle-is c e r.0 r.2 in
           let mine : last_owner_of n.links ≡ h.me = n.mine ∙ some_same n.me h.me (sym n.me_is ∙ h.me_is) in
           let found : coin_at (log_of events) c ≡ Some n.history.made =
           ap (coin_at (log_of events)) (sym name.0) ∙ n.history.coin in
@@ -68,21 +45,6 @@ kept_at tests rules events w c e legal h =
     ]
 
 -- ---- keeping, before the event
-
-deposit-caller : (log : List RootCall) (c : ℕ) (made : CoinView) → coin_at log c ≡ Some made
-    → list_any (deposits_by made.owner.account) log ≡ true
-unfolding coin_at
-deposit-caller [] c made is = absurd (none_some made is)
-deposit-caller (Deposit account amount key ∷ log) c made is =
-    (elim (c == coins log + 1) as (λ b. (if b then Some (new_coin log account amount key) else coin_at log c)
-    ≡ Some made → list_any (deposits_by made.owner.account) (Deposit account amount key ∷ log) ≡ true) [
-      | true ↦ grind (arith, common_steps, or_left, eq-eqb, some_same)
-      | false ↦ λ later. or_right (account == made.owner.account) (list_any (deposits_by made.owner.account) log)
-          (deposit-caller log c made later)
-    ]) is
-deposit-caller (call ∷ log) c made is =
-    or_right (deposits_by made.owner.account call) (list_any (deposits_by made.owner.account) log)
-    (deposit-caller log c made is)
 
 abbrev pub KeptBefore : (event : Event) (events : List Event) (w c e : ℕ) → Type 0
 KeptBefore event events w c e = Keeping events w c e ⊎ NoneStands (log_of (event ∷ events)) c

@@ -1,30 +1,7 @@
 -- An exit that has led since it began is paid.
-use Rattle.std.proofs.Common.{◌≡◌, ℕ, ◌+◌, ◌<◌, ◌≤◌, ◌==◌, ◌&&◌, ◌||◌, not, Bool, true, false, if◌then◌else◌, List, [], ◌∷◌, ◌++◌, Option, Some, None, option_map, inl, inr, refl, sym, ap, ◌∙◌, subst, arith}
-use Rattle.std.specs.Prelude.{is_some, nat_le}
-use Rattle.std.specs.List.{AllByRecursion, list_any, list_all}
-use Rattle.std.proofs.lemmas.Bool.{cases_Bool, eqb-true, eq-eqb, leb-true, leb-false, le-leb, and_parts, and_from, not-true, not_from_false, true≢false, false≢true, false_from_ne_true}
-use Rattle.std.proofs.lemmas.Grind.{common_steps}
-use Rattle.plasma_tx.specs.declared.rules.TheConstants.{CHALLENGE_WINDOW, RESPONSE_WINDOW, EXIT_PERIOD}
-use Rattle.plasma_tx.specs.declared.call.RootCall.{RootCall}
-use Rattle.plasma_tx.specs.declared.call.RootCall.TheVariants.{Tick, StartDeposit, StartSpend, Before, Respond, Finish}
-use Rattle.plasma_tx.specs.declared.answer.Answer.TheVariants.{Paid}
-use Rattle.plasma_tx.specs.Laws.{is_start, is_end, start_by, last_start, without_challenges}
-use Rattle.plasma_tx.specs.Views.{now, Challenge, Exit, is_exit, exits, exit_at, challenge_at, with_challenge, with_answer, new_challenge, has_no_open_challenge, is_withdrawn}
-use Rattle.plasma_tx.specs.Shown.{Tests, Rules}
-use Rattle.plasma_tx.specs.Table.{answer_to, is_accepted, IsLegal}
-use Rattle.plasma_tx.proofs.Accepted.{accepted_calls_show}
-use Rattle.plasma_tx.proofs.Each.{all-append, each-exit}
-use Rattle.plasma_tx.proofs.Ends.{paid_exactly}
-use Rattle.plasma_tx.proofs.RuleNames.{exits-distinct}
-use Rattle.plasma_tx.proofs.Stands.{exits_stand}
-use Rattle.watch_duty.proofs.Members.{Has, all-has, only-found}
-use Rattle.world_laws.proofs.Lists.{some_same, none_some, any-none, and-off, all-from, all-changed, all-answered, found-has, all_answered-from}
-use Rattle.plasma_tx.specs.Shown.{tests_by, rules_of}
-use Rattle.world_rules.specs.Events.{log_of}
-use Rattle.world_laws.proofs.Shown.{legal-log, legal-table}
-use Rattle.money_laws.specs.MoneyLaws.{LeadersOfRunsArePaid, FirstsOfRunsArePaid}
-use Rattle.money_laws.proofs.Tips.{legal-to}
-use Rattle.money_laws.specs.First.{is_ripe, is_missed, ends_lead, leads, has_led, ends_first, LeadersArePaid, FirstsLead, FirstsArePaid}
+use Rattle.money_laws.proofs.Basics.{◌≡◌, ℕ, ◌+◌, ◌<◌, ◌≤◌, ◌==◌, ◌&&◌, ◌||◌, not, Bool, true, false, if◌then◌else◌, List, [], ◌∷◌, ◌++◌, Option, Some, None, option_map, inl, inr, refl, sym, ap, ◌∙◌, subst, arith, is_some, nat_le, AllByRecursion, list_any, list_all, cases_Bool, eqb-true, eq-eqb, leb-true, leb-false, le-leb, and_parts, and_from, not-true, not_from_false, true≢false, false≢true, false_from_ne_true, common_steps}
+use Rattle.money_laws.proofs.CoinWords.{CHALLENGE_WINDOW, RESPONSE_WINDOW, EXIT_PERIOD, RootCall, Tick, StartDeposit, StartSpend, Before, Respond, Finish, Paid, is_start, is_end, start_by, last_start, without_challenges, now, Challenge, Exit, is_exit, exits, exit_at, challenge_at, with_challenge, with_answer, new_challenge, has_no_open_challenge, is_withdrawn, Tests, Rules, answer_to, is_accepted, IsLegal, accepted_calls_show, all-append, each-exit, paid_exactly, exits-distinct, exits_stand, Has, all-has, only-found, tests_by, rules_of}
+use Rattle.money_laws.proofs.WorldWords.{some_same, none_some, any-none, and-off, all-from, all-changed, all-answered, found-has, all_answered-from, log_of, legal-log, legal-table, LeadersOfRunsArePaid, FirstsOfRunsArePaid, legal-to, is_ripe, is_missed, ends_lead, leads, has_led, ends_first, LeadersArePaid, FirstsLead, FirstsArePaid}
 
 -- ---- challenges are made in their window
 
@@ -108,8 +85,7 @@ stood call log c e own found other =
     by_end : (b : Bool) → is_end c e call ≡ b
         → (if b then None else last_start log c e) ≡ Some (without_challenges own) → Stood call log c e
     by_end true is same = absurd (none_some (without_challenges own) same)
-    by_end false is same =
-        by_exit (exit_at log c e) refl is (exits_stand log c e ∙ same)
+    by_end false is same = by_exit (exit_at log c e) refl is (exits_stand log c e ∙ same)
 
 -- ---- the coin isn't withdrawn
 
@@ -226,10 +202,8 @@ firsts_lead log c e own found first none early =
     let parts = and_parts (x.coin == c) (ends_lead (now log) e x) yes in
     let c_is = eqb-true x.coin c parts.0 in
     elim (cases_Bool (x.block == e)) [
-      | inl at ↦
-          grind (arith, common_steps, the-one, eqb-true, true≢false)
-      | inr apart ↦
-          grind (arith, common_steps, leb-true, leb-false, and-off, any-none)
+      | inl at ↦ grind (arith, common_steps, the-one, eqb-true, true≢false)
+      | inr apart ↦ grind (arith, common_steps, leb-true, leb-false, and-off, any-none)
     ])))
 
 -- ---- who ends first is paid

@@ -1,36 +1,12 @@
 -- What an account has, with what it has at stake, over the calls of a log.
-use Rattle.std.proofs.Common.{◌≡◌, ◌≢◌, ℕ, ◌+◌, ◌*◌, ◌≤◌, ◌==◌, ◌&&◌, not, Bool, true, false, if◌then◌else◌, List, [], ◌∷◌, ◌++◌, Some, None, inl, inr, refl, ap, ◌∙◌, subst, cond, filter, arith, rules}
-use Rattle.std.specs.Prelude.{is_some}
-use Rattle.std.proofs.lemmas.Bool.{eqb-true, eq-eqb, ne_eqb, and_from, or_parts, false_from_ne_true}
-use Rattle.std.proofs.lemmas.Grind.{common_steps}
-use Rattle.plasma_tx.specs.declared.rules.TheConstants.{EXIT_BOND, CHALLENGE_BOND}
-use Rattle.plasma_tx.specs.declared.opening.RawOpening.{RawOpening}
-use Rattle.plasma_tx.specs.declared.call.Shown.{Shown}
-use Rattle.plasma_tx.specs.declared.call.RootCall.{RootCall}
-use Rattle.plasma_tx.specs.declared.call.RootCall.TheVariants.{Fund, Tick, Deposit, Commit, StartDeposit, StartSpend, After, Between, Before, Respond, Finish}
-use Rattle.plasma_tx.specs.Laws.{is_challenged_at}
-use Rattle.plasma_tx.specs.Views.{Challenge, Exit, exits, exit_at, block_of, deposit_exit, spend_exit, challenge_at, with_challenge, with_answer, new_challenge}
-use Rattle.plasma_tx.specs.Shown.{Rules, tests_by, rules_of}
-use Rattle.plasma_tx.specs.Table.{IsLegal as IsLegalLog}
-use Rattle.plasma_tx.specs.Money.{challenge_bonds, pays, takes, share_of, balance_of}
-use Rattle.plasma_tx.proofs.Accepted.{accepted_calls_show}
-use Rattle.plasma_tx.proofs.Answered.{new_challenges_are_open}
-use Rattle.plasma_tx.proofs.Bounds.{responds_answer}
+use Rattle.money_laws.proofs.Basics.{◌≡◌, ◌≢◌, ℕ, ◌+◌, ◌*◌, ◌≤◌, ◌==◌, ◌&&◌, not, Bool, true, false, if◌then◌else◌, List, [], ◌∷◌, ◌++◌, Some, None, inl, inr, refl, ap, ◌∙◌, subst, cond, filter, arith, rules, is_some, eqb-true, eq-eqb, ne_eqb, and_from, or_parts, false_from_ne_true, common_steps}
+use Rattle.money_laws.proofs.CoinWords.{EXIT_BOND, CHALLENGE_BOND, RawOpening, Shown, RootCall, Fund, Tick, Deposit, Commit, StartDeposit, StartSpend, After, Between, Before, Respond, Finish, is_challenged_at, Challenge, Exit, exits, exit_at, block_of, deposit_exit, spend_exit, challenge_at, with_challenge, with_answer, new_challenge, Rules, tests_by, rules_of, IsLegalLog, challenge_bonds, pays, takes, share_of, balance_of, accepted_calls_show, new_challenges_are_open, responds_answer, challenged-once, Has, has-contains}
+use Rattle.money_laws.proofs.WorldWords.{IsDigest, Event, Joins, log_of, IsLegal, found-has, challenge-has, legal-log, legal-table, bonds_at, sum_over, staked, first_or, if_to, IsKeeper, stands_first, wins, wins_in, OnlyGuards, OnlyGuarded, LegalGuardingCostsNothing, GuardingCostsNothing, LegalGuardiansHaveTheirMoney, GuardiansHaveTheirMoney, legal-to}
 use Rattle.plasma_tx.proofs.MoneyKept.{balances_suffice}
-use Rattle.plasma_tx.proofs.RuleNames.{challenged-once}
 use Rattle.plasma_tx.proofs.Weights.{by_share, share_of-is, exit_weight, exit_weight-is, exit_weight-challenged, exit_weight-answered}
-use Rattle.watch_duty.proofs.Members.{Has, has-contains}
-use Rattle.world_rules.specs.Laws.{IsDigest}
-use Rattle.world_rules.specs.Events.{Event, Joins, log_of}
-use Rattle.world_laws.specs.Legal.{IsLegal}
-use Rattle.world_laws.proofs.Lists.{found-has, challenge-has}
-use Rattle.world_laws.proofs.Shown.{legal-log, legal-table}
-use Rattle.money_laws.specs.Bonds.{bonds_at, sum_over, staked, first_or, if_to}
-use Rattle.money_laws.specs.Keepers.{IsKeeper}
-use Rattle.money_laws.specs.MoneyLaws.{stands_first, wins, wins_in, OnlyGuards, OnlyGuarded, LegalGuardingCostsNothing, GuardingCostsNothing, LegalGuardiansHaveTheirMoney, GuardiansHaveTheirMoney}
 use Rattle.money_laws.proofs.SumsOver.{begun, ended, changed}
 use Rattle.money_laws.proofs.Ends.{ends_pay_bonds}
-use Rattle.money_laws.proofs.Tips.{tips_are_not_answered, legal-to}
+use Rattle.money_laws.proofs.Tips.{tips_are_not_answered}
 
 -- those of the challenges that are open
 abbrev open_challenges_in : List Challenge → List Challenge
@@ -80,8 +56,7 @@ bonds-answered account log c f challenged x one stands there is_open =
 
 -- the worth is no less after the call, and 100 more where the account wins
 abbrev pub Grows : ℕ → List RootCall → RootCall → Type 0
-Grows account log call =
-    worth log account + EXIT_BOND * one_for (wins log account call) ≤ worth (call ∷ log) account
+Grows account log call = worth log account + EXIT_BOND * one_for (wins log account call) ≤ worth (call ∷ log) account
 
 first-gets : (account other : ℕ) (challenges : List Challenge)
     → EXIT_BOND * one_for (stands_first account challenges) ≤ if_to account (first_or other challenges) EXIT_BOND

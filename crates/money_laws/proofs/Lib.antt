@@ -1,3 +1,7 @@
+pub mod Basics
+pub mod CoinWords
+pub mod NodeWords
+pub mod WorldWords
 pub mod SumsOver
 pub mod Ends
 pub mod Keeping

@@ -1,23 +1,9 @@
 -- What is looked after comes in time.
-use Rattle.std.proofs.Common.{◌≡◌, ℕ, not, true, false, List, [], ◌∷◌, inl, inr, refl, arith, rules}
-use Rattle.std.proofs.lemmas.Bool.{cases_Bool, eqb-true, leb-true, and_parts, and_from, not-true, not_from_false, true≢false, false_from_ne_true}
-use Rattle.std.proofs.lemmas.Grind.{common_steps}
-use Rattle.plasma_tx.specs.Views.{now, Exit, exits}
-use Rattle.plasma_tx.specs.Shown.{Rules, tests_by, rules_of}
-use Rattle.watch_duty.proofs.Members.{Has, all-has}
-use Rattle.world_rules.specs.Laws.{IsDigest}
-use Rattle.world_rules.specs.Events.{Event, log_of}
-use Rattle.world_rules.specs.Exhibits.{seen, strings_of, has_clash, collides, is_forged}
-use Rattle.world_rules.specs.Safety.{holds}
+use Rattle.money_laws.proofs.Basics.{◌≡◌, ℕ, not, true, false, List, [], ◌∷◌, inl, inr, refl, arith, rules, cases_Bool, eqb-true, leb-true, and_parts, and_from, not-true, not_from_false, true≢false, false_from_ne_true, common_steps}
+use Rattle.money_laws.proofs.CoinWords.{now, Exit, exits, Rules, tests_by, rules_of, Has, all-has}
+use Rattle.money_laws.proofs.WorldWords.{IsDigest, Event, log_of, seen, strings_of, has_clash, collides, is_forged, holds, IsLegal, is_looked_after, any-some, Holding, holding, none-before, forged-parts, legal-before, is_late, goes_late, is_in_time, LegalLookedAfterIsInTime, LookedAfterIsInTime, legal-to}
 use Rattle.world_laws.specs.Invariant.{AllWatched}
-use Rattle.world_laws.specs.Legal.{IsLegal}
-use Rattle.world_laws.specs.Looked.{is_looked_after}
-use Rattle.world_laws.proofs.Lists.{any-some}
-use Rattle.world_laws.proofs.Bound.{Holding, holding}
-use Rattle.world_laws.proofs.Before.{none-before, forged-parts, legal-before}
 use Rattle.world_laws.proofs.Safe.{looked-parts, watched}
-use Rattle.money_laws.specs.MoneyLaws.{is_late, goes_late, is_in_time, LegalLookedAfterIsInTime, LookedAfterIsInTime}
-use Rattle.money_laws.proofs.Tips.{legal-to}
 
 module _ (events : List Event) (w c e : ℕ) (h : Holding events w c e)
     (all : AllWatched c h.me e (now (log_of events)) (exits (log_of events))) where

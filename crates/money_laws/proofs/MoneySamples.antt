@@ -1,29 +1,11 @@
 -- Small lists of calls and events, the newest first, on which the laws' words are computed: each premise can be met,
 -- and each bound is tight. Every call of the lists of calls is accepted after those before it, where each opening and
 -- each signature passes.
-use Rattle.std.proofs.Common.{◌≡◌, ℕ, ◌+◌, ◌&&◌, Bool, true, false, List, [], ◌∷◌, None, refl}
-use Rattle.lms_sign.specs.Types.{u32_at}
-use Rattle.plasma_tx.specs.declared.opening.RawOpening.{RawOpening}
-use Rattle.plasma_tx.specs.declared.call.Shown.TheVariants.{Deposit as AtDeposit, Spend}
-use Rattle.plasma_tx.specs.declared.call.RootCall.{RootCall}
-use Rattle.plasma_tx.specs.declared.call.RootCall.TheVariants.{Fund, Tick, Deposit, Commit, StartDeposit, StartSpend, Before, Respond, Finish}
-use Rattle.plasma_tx.specs.declared.answer.Answer.TheVariants.{Paid, Dropped, Refused}
+use Rattle.money_laws.proofs.Basics.{◌≡◌, ℕ, ◌+◌, ◌&&◌, Bool, true, false, List, [], ◌∷◌, None, refl}
+use Rattle.money_laws.proofs.CoinWords.{u32_at, RawOpening, AtDeposit, Spend, RootCall, Fund, Tick, Deposit, Commit, StartDeposit, StartSpend, Before, Respond, Finish, Paid, Dropped, Refused, leaf_in, body_text, signed_in, body_in, owner_text, owner_in, transfer_in, now, blocks, coins, block_at, coin_at, responses, exits, exit_at, is_withdrawn, shown_tx, answer_to, is_accepted, pays, takes, share_of, balance_of, funded}
+use Rattle.money_laws.proofs.WorldWords.{Event, Joins, Binds, log_of, wallet_owner, accepted, bound_by, taken_back, not_taken, holds, sum_over, staked, has_led, reserve, keeps, is_in_time}
 use Rattle.plasma_tx.specs.declared.answer.Refusal.TheVariants.{NoFunds}
-use Rattle.plasma_tx.specs.Openings.{leaf_in}
-use Rattle.plasma_tx.specs.Spelling.{body_text, signed_in, body_in, owner_text, owner_in}
-use Rattle.plasma_tx.specs.Transfer.{transfer_in}
-use Rattle.plasma_tx.specs.Views.{now, blocks, coins, block_at, coin_at, responses, exits, exit_at, is_withdrawn}
-use Rattle.plasma_tx.specs.Shown.{shown_tx}
-use Rattle.plasma_tx.specs.Table.{answer_to, is_accepted}
-use Rattle.plasma_tx.specs.Money.{pays, takes, share_of, balance_of, funded}
-use Rattle.world_rules.specs.Events.{Event, Joins, Binds, log_of, wallet_owner, accepted, bound_by, taken_back, not_taken}
-use Rattle.world_rules.specs.Safety.{holds}
 use Rattle.world_laws.proofs.Samples.{key, stranger, tag, rules, lax, sends, deposited}
-use Rattle.money_laws.specs.Bonds.{sum_over, staked}
-use Rattle.money_laws.specs.First.{has_led}
-use Rattle.money_laws.specs.Reserve.{reserve}
-use Rattle.money_laws.specs.Keepers.{keeps}
-use Rattle.money_laws.specs.MoneyLaws.{is_in_time}
 
 -- each call was accepted after those before it
 unfoldable pub are_taken : List RootCall → Bool

@@ -1,42 +1,16 @@
 -- Befores on offer are accepted one after the other, where the account has the reserve.
-use Rattle.std.proofs.Common.{◌≡◌, ℕ, ◌+◌, ◌<◌, ◌≤◌, ◌==◌, ◌&&◌, not, Bool, true, false, if◌then◌else◌, List, [], ◌∷◌, map, Option, Some, sym, ap, ◌∙◌, inl, inr, subst, filter, Contains, arith}
-use Rattle.std.specs.Prelude.{is_none, nat_lt}
-use Rattle.std.specs.Option.{option_map_or}
-use Rattle.std.specs.List.{list_any}
-use Rattle.std.proofs.lemmas.Bool.{eqb-true, eq-eqb, lt-ltb, le-ltb, leb-true, and_parts, and_from, not_from_false, false≢true, false_from_ne_true}
-use Rattle.std.proofs.lemmas.Grind.{common_steps}
-use Rattle.plasma_tx.specs.declared.rules.TheConstants.{CHALLENGE_BOND, CHALLENGE_WINDOW}
-use Rattle.plasma_tx.specs.declared.links.Links.{Links}
-use Rattle.plasma_tx.specs.declared.call.Shown.{Shown}
-use Rattle.plasma_tx.specs.declared.call.RootCall.{RootCall}
-use Rattle.plasma_tx.specs.declared.call.RootCall.TheVariants.{Before}
+use Rattle.money_laws.proofs.Basics.{◌≡◌, ℕ, ◌+◌, ◌<◌, ◌≤◌, ◌==◌, ◌&&◌, not, Bool, true, false, if◌then◌else◌, List, [], ◌∷◌, map, Option, Some, sym, ap, ◌∙◌, inl, inr, subst, filter, Contains, arith, is_none, nat_lt, option_map_or, list_any, eqb-true, eq-eqb, lt-ltb, le-ltb, leb-true, and_parts, and_from, not_from_false, false≢true, false_from_ne_true, common_steps}
+use Rattle.money_laws.proofs.CoinWords.{CHALLENGE_BOND, CHALLENGE_WINDOW, Links, Shown, RootCall, Before, tip_of, now, Challenge, Exit, exits, exits_of, exit_view, challenge_view, challenge_at, block_of, Rules, tests_by, rules_of, is_over, balance_of, accepted_calls_show, links_of, tip_shown, due_for, due_of, Has, has-map, has-filter, has-flat_map, any-map, none-found, contains-has}
+use Rattle.money_laws.proofs.WorldWords.{IsDigest, Event, log_of, collides, IsLegal, fresh_offers, fresh, due_calls_are_taken, needs_before, asks, Tip, reserve_of, is_at_tip, is_before_at, IsOnOffer, AreOnOffer, LegalReserveSuffices, ReserveSuffices, legal-to}
 use Rattle.plasma_tx.specs.declared.views.ChallengeView.{ChallengeView}
 use Rattle.plasma_tx.specs.declared.views.ExitView.{ExitView}
 use Rattle.plasma_tx.specs.ChallengeLists.{is_challenged}
-use Rattle.plasma_tx.specs.Links.{tip_of}
-use Rattle.plasma_tx.specs.Views.{now, Challenge, Exit, exits, exits_of, exit_view, challenge_view, challenge_at, block_of}
-use Rattle.plasma_tx.specs.Shown.{Rules, tests_by, rules_of}
-use Rattle.plasma_tx.specs.Table.{is_over}
-use Rattle.plasma_tx.specs.Money.{balance_of}
-use Rattle.plasma_tx.proofs.Accepted.{accepted_calls_show}
-use Rattle.coin_history.specs.History.{links_of}
-use Rattle.watch_duty.specs.Duty.{tip_shown, due_for, due_of}
-use Rattle.watch_duty.proofs.Members.{Has, has-map, has-filter, has-flat_map, any-map, none-found, contains-has}
 use Rattle.watch_duty.proofs.Dues.{IsDue as IsDueFor, due_for-due}
 use Rattle.node_rules.specs.Kept.{kept_links}
-use Rattle.world_rules.specs.Laws.{IsDigest}
-use Rattle.world_rules.specs.Events.{Event, log_of}
-use Rattle.world_rules.specs.Exhibits.{collides}
-use Rattle.world_laws.specs.Legal.{IsLegal}
-use Rattle.world_laws.specs.LegalLaws.{fresh_offers}
 use Rattle.world_laws.proofs.Histories.{links-at, shown-tip}
 use Rattle.world_laws.proofs.Guards.{kept-some}
-use Rattle.world_laws.proofs.DueTaken.{fresh, due_calls_are_taken}
-use Rattle.money_laws.specs.Reserve.{needs_before, asks, Tip, reserve_of, is_at_tip}
-use Rattle.money_laws.specs.MoneyLaws.{is_before_at, IsOnOffer, AreOnOffer, LegalReserveSuffices, ReserveSuffices}
 use Rattle.money_laws.proofs.Reserves.{over-one, tip-one, Could}
 use Rattle.money_laws.proofs.InOrder.{CouldBe, IsReady, AreReady, in-order}
-use Rattle.money_laws.proofs.Tips.{legal-to}
 
 -- a Before that is due is of an exit that asks for it
 record IsAsked (log : List RootCall) (c : ℕ) (shown : Shown) : Type 0 where

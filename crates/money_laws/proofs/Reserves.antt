@@ -1,27 +1,8 @@
 -- The reserve suffices, and no less does.
-use Rattle.std.proofs.Common.{◌≡◌, ℕ, ◌+◌, ◌<◌, ◌≤◌, ◌==◌, ◌&&◌, not, Bool, true, false, if◌then◌else◌, List, [], ◌∷◌, ◌++◌, Option, Some, None, option_map, inl, inr, refl, sym, ap, ◌∙◌, subst, arith}
-use Rattle.std.specs.Prelude.{is_some, is_none, nat_lt}
-use Rattle.std.specs.List.{list_any, list_all}
-use Rattle.std.proofs.lemmas.Bool.{cases_Bool, eqb-true, eq-eqb, lt-ltb, ltb-true, leb-true, and_parts, and_from, or_parts, or_cases, not_from_false, true≢false, false≢true, false_from_ne_true}
-use Rattle.std.proofs.lemmas.Grind.{common_steps}
-use Rattle.plasma_tx.specs.declared.rules.TheConstants.{CHALLENGE_BOND, CHALLENGE_WINDOW}
-use Rattle.plasma_tx.specs.declared.owner.Owner.{Owner}
-use Rattle.plasma_tx.specs.declared.call.Shown.{Shown}
-use Rattle.plasma_tx.specs.declared.call.RootCall.{RootCall}
-use Rattle.plasma_tx.specs.declared.call.RootCall.TheVariants.{Before}
-use Rattle.plasma_tx.specs.declared.views.CoinView.{CoinView}
-use Rattle.plasma_tx.specs.Views.{now, block_at, coin_at, Challenge, Exit, exits, exit_at, block_of, challenge_at, with_challenge, new_challenge}
-use Rattle.plasma_tx.specs.Shown.{Tests, Rules, shown_tx, shown_owner}
-use Rattle.plasma_tx.specs.Table.{is_over, is_before_parent}
-use Rattle.plasma_tx.specs.Money.{pays, takes, share_of, balance_of}
-use Rattle.plasma_tx.proofs.Accepted.{accepted_calls_show}
+use Rattle.money_laws.proofs.Basics.{◌≡◌, ℕ, ◌+◌, ◌<◌, ◌≤◌, ◌==◌, ◌&&◌, not, Bool, true, false, if◌then◌else◌, List, [], ◌∷◌, ◌++◌, Option, Some, None, option_map, inl, inr, refl, sym, ap, ◌∙◌, subst, arith, is_some, is_none, nat_lt, list_any, list_all, cases_Bool, eqb-true, eq-eqb, lt-ltb, ltb-true, leb-true, and_parts, and_from, or_parts, or_cases, not_from_false, true≢false, false≢true, false_from_ne_true, common_steps}
+use Rattle.money_laws.proofs.CoinWords.{CHALLENGE_BOND, CHALLENGE_WINDOW, Owner, Shown, RootCall, Before, CoinView, now, block_at, coin_at, Challenge, Exit, exits, exit_at, block_of, challenge_at, with_challenge, new_challenge, Tests, Rules, shown_tx, shown_owner, is_over, is_before_parent, pays, takes, share_of, balance_of, accepted_calls_show, same-challenged, Has}
+use Rattle.money_laws.proofs.WorldWords.{some_same, and-off, found-has, is_none-push, sum_over, needs_before, asks, reserve, Tip, reserve_of, AreAccepted, with_calls, is_before_by, is_at_tip, AreApart, ReserveIsNeeded}
 use Rattle.plasma_tx.proofs.Names.{option_or-none, find-changed, challenge_at-push}
-use Rattle.plasma_tx.proofs.Stands.{same-challenged}
-use Rattle.watch_duty.proofs.Members.{Has}
-use Rattle.world_laws.proofs.Lists.{some_same, and-off, found-has}
-use Rattle.world_laws.proofs.Watched.{is_none-push}
-use Rattle.money_laws.specs.Bonds.{sum_over}
-use Rattle.money_laws.specs.Reserve.{needs_before, asks, reserve, Tip, reserve_of, AreAccepted, with_calls, is_before_by, is_at_tip, AreApart, ReserveIsNeeded}
 use Rattle.money_laws.proofs.SumsOver.{changed}
 
 -- ---- the parts of a sum
@@ -40,8 +21,7 @@ unfolding reserve_of
 tip-one log c e [] is = absurd (false≢true is)
 tip-one log c e (tip ∷ tips) is =
     elim (or_cases (is_at_tip c e tip) (list_any (is_at_tip c e) tips) is) [
-      | inl here ↦
-          grind (arith, common_steps, and_parts, eqb-true)
+      | inl here ↦ grind (arith, common_steps, and_parts, eqb-true)
       | inr later ↦ omega (arith, tip-one log c e tips later)
     ]
 
@@ -144,12 +124,10 @@ module _ (log : List RootCall) (by c f : ℕ) (shown : Shown) (x : Exit) (stands
   change k e = changed (asks log k e) log c f (with_challenge (new_challenge log by c f shown)) x stands
 
   no-more : (k e : ℕ) → reserve (Before by c f shown ∷ log) k e ≤ reserve log k e
-  no-more k e =
-      omega (arith, change k e, challenged-less log k e x (new_challenge log by c f shown) fresh)
+  no-more k e = omega (arith, change k e, challenged-less log k e x (new_challenge log by c f shown) fresh)
 
   at-most-one : (k e : ℕ) → reserve log k e ≤ reserve (Before by c f shown ∷ log) k e + CHALLENGE_BOND
-  at-most-one k e =
-      omega (arith, change k e, asks-most ((x.coin == k) && needs_before log e x))
+  at-most-one k e = omega (arith, change k e, asks-most ((x.coin == k) && needs_before log e x))
 
   -- at another tip it stays
   stays : (tip : Tip) → is_at_tip c (block_of shown) tip ≡ false
@@ -214,8 +192,7 @@ module _ (log : List RootCall) (by c f : ℕ) (shown : Shown) (x : Exit) (stands
   all-less asked [] is = absurd (false≢true is)
   all-less asked (tip ∷ tips) is =
       elim (or_cases (is_at_tip c (block_of shown) tip) (list_any (is_at_tip c (block_of shown)) tips) is) [
-        | inl here ↦
-            grind (arith, common_steps, and_parts, eqb-true, one-less, all-no-more)
+        | inl here ↦ grind (arith, common_steps, and_parts, eqb-true, one-less, all-no-more)
         | inr later ↦ omega (arith, no-more tip.coin tip.block, all-less asked tips later)
       ]
 

@@ -1,30 +1,16 @@
 -- The openings and signatures of the worked lists: what they show, and that they are valid.
-use Rattle.std.proofs.Common.{◌≡◌, ℕ, ◌^◌, ◌<◌, ◌==◌, ◌&&◌, Bool, true, false, if◌then◌else◌, nat_lt, List, length, Option, Some, None, Ok, refl, sym, ap, ◌∙◌, subst, arith}
-use Rattle.std.specs.Str.{bytes_eq}
-use Rattle.std.proofs.lemmas.Bool.{and_parts, and_from, eqb-true, eq-eqb}
+use Rattle.money_laws.proofs.Basics.{◌≡◌, ℕ, ◌^◌, ◌<◌, ◌==◌, ◌&&◌, Bool, true, false, if◌then◌else◌, nat_lt, List, length, Option, Some, None, Ok, refl, sym, ap, ◌∙◌, subst, arith, bytes_eq, and_parts, and_from, eqb-true, eq-eqb, bytes_eq-Decides, common_steps}
+use Rattle.money_laws.proofs.CoinWords.{height, chains, u32_at, is_supported, leaf_count, public_key_of, signature_of, set_bits, lowest_default, is_opening, Body, SignedTx, RootCall, IsBody, mark_of, last_text, body_text, signed_text, signed_in, opening_in, leaf_in, transfer_in, is_signed_by, is_transfer, may_stand_in, kept_transfer, tests_by, opens_root, root_at, shown_tx}
+use Rattle.money_laws.proofs.WorldWords.{me, secret, stranger, tag, rules, signed, unsigned, digest, alone, root_with, shows}
 use Rattle.std.proofs.lemmas.List.{length-append}
-use Rattle.std.proofs.lemmas.Slice.Eq.{bytes_eq-Decides}
-use Rattle.std.proofs.lemmas.Grind.{common_steps}
 use Rattle.lms_sign.specs.declared.types.LmsTypes.{LmsTypes}
-use Rattle.lms_sign.specs.Types.{height, chains, u32_at, is_supported, leaf_count}
 use Rattle.lms_sign.specs.Valid.{types_of, id_of, key_root, type_place, is_valid, is_formed, candidate_root}
-use Rattle.lms_sign.specs.Tree.{public_key_of, signature_of}
 use Rattle.lms_sign.proofs.Laws.{key-types, signatures_are_valid}
 use Rattle.lms_sign.proofs.Nodes.{length-tree_node}
 use Rattle.lms_sign.proofs.Lists.{length-u32str}
-use Rattle.sparse_merkle.specs.MaskedPath.{set_bits, lowest_default}
-use Rattle.sparse_merkle.specs.Opening.{is_opening}
 use Rattle.sparse_merkle.proofs.ProofLaws.{length-proof_path}
-use Rattle.plasma_tx.specs.declared.body.Body.{Body}
-use Rattle.plasma_tx.specs.declared.signed_tx.SignedTx.{SignedTx}
-use Rattle.plasma_tx.specs.declared.call.RootCall.{RootCall}
-use Rattle.plasma_tx.specs.Spelling.{IsBody, mark_of, last_text, body_text, signed_text, signed_in}
-use Rattle.plasma_tx.specs.Openings.{opening_in, leaf_in}
-use Rattle.plasma_tx.specs.Transfer.{transfer_in, is_signed_by, is_transfer, may_stand_in, kept_transfer}
-use Rattle.plasma_tx.specs.Shown.{tests_by, opens_root, root_at, shown_tx}
 use Rattle.plasma_tx.proofs.OpeningTexts.{opening_in-text, leaf-shown}
 use Rattle.plasma_tx.proofs.Spellings.{signed_in-text, length-owner_text}
-use Rattle.money_laws.specs.Samples.{me, secret, stranger, tag, rules, signed, unsigned, digest, alone, root_with, shows}
 
 -- ---- signatures
 

@@ -1,11 +1,7 @@
 -- Sums over exits: an exit is started, taken out or changed.
-use Rattle.std.proofs.Common.{◌≡◌, ℕ, ◌+◌, ◌≤◌, cond, not, true, false, if◌then◌else◌, List, [], ◌∷◌, ◌++◌, Some, None, ap, find, arith}
-use Rattle.std.specs.Prelude.{is_some}
-use Rattle.plasma_tx.specs.declared.call.RootCall.{RootCall}
-use Rattle.plasma_tx.specs.Views.{Exit, is_exit, without_exit, with_exit_changed, exits, exit_at}
-use Rattle.plasma_tx.proofs.Each.{some_same}
-use Rattle.plasma_tx.proofs.RuleNames.{count, filter-none, map-none, count-none, exits-distinct}
-use Rattle.money_laws.specs.Bonds.{sum_over}
+use Rattle.money_laws.proofs.Basics.{◌≡◌, ℕ, ◌+◌, ◌≤◌, cond, not, true, false, if◌then◌else◌, List, [], ◌∷◌, ◌++◌, Some, None, ap, find, arith, is_some}
+use Rattle.money_laws.proofs.CoinWords.{RootCall, Exit, is_exit, without_exit, with_exit_changed, exits, exit_at, some_same, count, filter-none, map-none, count-none, exits-distinct}
+use Rattle.money_laws.proofs.WorldWords.{sum_over}
 
 module _ (of : Exit → ℕ) where
   over-append : (xs : List Exit) (new : Exit) → sum_over of (xs ++ new ∷ []) ≡ sum_over of xs + of new

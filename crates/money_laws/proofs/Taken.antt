@@ -1,18 +1,6 @@
 -- Calls that are accepted, by what they show.
-use Rattle.std.proofs.Common.{◌≡◌, ℕ, ◌==◌, true, false, nat_lt, List, Some, refl}
-use Rattle.std.specs.Prelude.{is_some}
-use Rattle.plasma_tx.specs.declared.rules.TheConstants.{EXIT_BOND, CHALLENGE_BOND, CHALLENGE_WINDOW}
-use Rattle.plasma_tx.specs.declared.owner.Owner.{Owner}
-use Rattle.plasma_tx.specs.declared.signed_tx.SignedTx.{SignedTx}
-use Rattle.plasma_tx.specs.declared.opening.RawOpening.{RawOpening}
-use Rattle.plasma_tx.specs.declared.call.Shown.{Shown}
-use Rattle.plasma_tx.specs.declared.call.RootCall.{RootCall}
-use Rattle.plasma_tx.specs.declared.call.RootCall.TheVariants.{StartSpend, After, Between, Before}
-use Rattle.plasma_tx.specs.declared.views.CoinView.{CoinView}
-use Rattle.plasma_tx.specs.Views.{block_of, coin_at, Exit, exit_at, challenge_at, is_withdrawn}
-use Rattle.plasma_tx.specs.Shown.{Tests, Rules, shown_owner, shown_tx}
-use Rattle.plasma_tx.specs.Table.{answer_to, is_accepted, is_over, is_committed_after, is_committed_between, may_exit_at, is_before_parent}
-use Rattle.plasma_tx.specs.Money.{balance_of}
+use Rattle.money_laws.proofs.Basics.{◌≡◌, ℕ, ◌==◌, true, false, nat_lt, List, Some, refl, is_some}
+use Rattle.money_laws.proofs.CoinWords.{EXIT_BOND, CHALLENGE_BOND, CHALLENGE_WINDOW, Owner, SignedTx, RawOpening, Shown, RootCall, StartSpend, After, Between, Before, CoinView, block_of, coin_at, Exit, exit_at, challenge_at, is_withdrawn, Tests, Rules, shown_owner, shown_tx, answer_to, is_accepted, is_over, is_committed_after, is_committed_between, may_exit_at, is_before_parent, balance_of}
 
 module _ (tests : Tests) (rules : Rules) (log : List RootCall) (account c : ℕ) where
   pub start-taken : (parent : Shown) (exit : RawOpening) (coin : CoinView) (owner : Owner) (tx : SignedTx)

@@ -1,41 +1,9 @@
 -- No challenge at the tip of a coin that a wallet keeps is answered.
-use Rattle.std.proofs.Common.{◌≡◌, ℕ, true, false, List, [], ◌∷◌, ◌++◌, inl, inr, refl, sym, ap, ◌∙◌, subst, arith, rules}
-use Rattle.std.specs.Prelude.{is_some}
-use Rattle.std.specs.List.{AllByRecursion}
-use Rattle.std.proofs.lemmas.Grind.{common_steps}
-use Rattle.plasma_tx.specs.declared.opening.RawOpening.{RawOpening}
-use Rattle.plasma_tx.specs.declared.call.Shown.{Shown}
-use Rattle.plasma_tx.specs.declared.call.RootCall.{RootCall}
-use Rattle.plasma_tx.specs.declared.call.RootCall.TheVariants.{Before, Respond}
-use Rattle.plasma_tx.specs.Laws.{is_challenged_at}
-use Rattle.plasma_tx.specs.Views.{Challenge, Exit, exits, block_of, challenge_at, with_challenge, with_answer, new_challenge}
-use Rattle.plasma_tx.specs.Shown.{Tests, Rules, tests_by, rules_of}
-use Rattle.plasma_tx.specs.Table.{answer_to, is_accepted}
+use Rattle.money_laws.proofs.Basics.{◌≡◌, ℕ, true, false, List, [], ◌∷◌, inl, inr, refl, sym, ap, ◌∙◌, subst, arith, rules, is_some, AllByRecursion, common_steps}
+use Rattle.money_laws.proofs.CoinWords.{RawOpening, Shown, RootCall, Before, Respond, is_challenged_at, Challenge, Exit, exits, block_of, challenge_at, with_challenge, with_answer, new_challenge, Tests, Rules, tests_by, rules_of, answer_to, is_accepted, accepted_calls_show, new_challenges_are_open, responds_answer, all-append, each-exit, Has, all-has, contains-has}
+use Rattle.money_laws.proofs.WorldWords.{IsDigest, Event, Joins, log_of, wallet_owner, bound_by, openings_of, seen, strings_of, has_clash, collides, forges_one, is_forged, holds, IsLegal, some_same, all-from, all-changed, all-answered, found-has, challenge-has, IsShownChallenge, seen-call, legal-log, legal-table, SignsBy, none-before, forged-parts, legal-before, legal-to, of_held, own-openings, IsSpend, is_spend, keeps, HoldersKeep, LegalTipsAreNotAnswered, LegalTipsStayOpen, TipsStayOpen, TipsAreNotAnswered}
 use Rattle.plasma_tx.specs.Accepted.{Challenges, Responds}
-use Rattle.plasma_tx.proofs.Accepted.{accepted_calls_show}
-use Rattle.plasma_tx.proofs.Answered.{new_challenges_are_open}
-use Rattle.plasma_tx.proofs.Bounds.{responds_answer}
-use Rattle.plasma_tx.proofs.Each.{all-append, each-exit}
 use Rattle.watch_duty.specs.Laws.{openings_of_call}
-use Rattle.watch_duty.proofs.Members.{Has, all-has, contains-has}
-use Rattle.schedule_text.specs.declared.line.Line.{Line}
-use Rattle.world_rules.specs.Laws.{IsDigest}
-use Rattle.world_rules.specs.Events.{Event, Joins, log_of, wallet_owner, bound_by}
-use Rattle.world_rules.specs.World.{World}
-use Rattle.world_rules.specs.Steps.{Run, events_of}
-use Rattle.world_rules.specs.Exhibits.{openings_of, seen, strings_of, has_clash, collides, forges_one, is_forged}
-use Rattle.world_rules.specs.Safety.{holds}
-use Rattle.world_laws.specs.Headline.{IsRun}
-use Rattle.world_laws.specs.Legal.{IsLegal}
-use Rattle.world_laws.proofs.Lists.{some_same, all-from, all-changed, all-answered, found-has, challenge-has}
-use Rattle.world_laws.proofs.Shown.{IsShownChallenge, seen-call, legal-log, legal-table}
-use Rattle.world_laws.proofs.Bound.{SignsBy}
-use Rattle.world_laws.proofs.Before.{none-before, forged-parts, legal-before}
-use Rattle.world_laws.proofs.CoinEvents.{runs-legal}
-use Rattle.world_laws.proofs.Promises.{suffix-legal}
-use Rattle.world_laws.proofs.Steps.{of_held, own-openings}
-use Rattle.world_laws.proofs.Watched.{IsSpend, is_spend}
-use Rattle.money_laws.specs.Keepers.{keeps, HoldersKeep, LegalTipsAreNotAnswered, LegalTipsStayOpen, TipsStayOpen, TipsAreNotAnswered}
 use Rattle.money_laws.proofs.Keeping.{Keeping, keeping, KeptBefore, kept_before, AtTip, at_tip, keeper-owns, tip-kept}
 
 pub holders_keep : HoldersKeep
@@ -178,14 +146,6 @@ tips_stay_open dig rules events w c e digest legal kept none unforged exit chall
     (opened dig digest rules w c e events legal none unforged (keeping events w c e kept))
     (contains-has (exits (log_of events)) exit there) c_is)
     (contains-has exit.challenges challenge has) at_tip
-
--- the events up to a line of a run are legal
-pub legal-to : (dig : List ℕ → List ℕ) (lines : List Line) (run : Run) (world : World) (later events : List Event)
-    → IsRun dig lines run world → events_of run.entries ≡ later ++ events
-    → IsLegal (tests_by dig) (rules_of world.chain) events
-legal-to dig lines run world later events is split =
-    suffix-legal (tests_by dig) (rules_of world.chain) later events
-    (subst (IsLegal (tests_by dig) (rules_of world.chain)) split (runs-legal dig lines run world is))
 
 pub run_tips_stay_open : TipsStayOpen
 run_tips_stay_open dig lines run world later events w c e is split =

@@ -1,37 +1,9 @@
 -- The worked list in which an After takes no money.
-use Rattle.std.proofs.Common.{◌≡◌, ℕ, ◌<◌, ◌==◌, ◌||◌, ◌&&◌, Bool, true, false, if◌then◌else◌, List, [], ◌∷◌, ◌++◌, Some, None, inl, inr, refl, sym, ap, ◌∙◌, subst, arith}
-use Rattle.std.specs.Prelude.{is_some}
-use Rattle.std.specs.List.{Contains, list_any}
-use Rattle.std.proofs.lemmas.Bool.{cases_Bool, eqb-true, and_parts, or_cases, or_right, false≢true}
-use Rattle.std.proofs.lemmas.List.Elements.{All-from_recursion}
-use Rattle.lms_sign.specs.Types.{u32str, u32_at}
-use Rattle.lms_sign.specs.Tree.{public_key_of}
-use Rattle.sparse_merkle.specs.TreeDigest.{leaf_string}
-use Rattle.plasma_tx.specs.declared.owner.Owner.{Owner}
-use Rattle.plasma_tx.specs.declared.signed_tx.SignedTx.{SignedTx}
-use Rattle.plasma_tx.specs.declared.opening.RawOpening.{RawOpening}
+use Rattle.money_laws.proofs.Basics.{◌≡◌, ℕ, ◌<◌, ◌==◌, ◌||◌, ◌&&◌, Bool, true, false, if◌then◌else◌, List, [], ◌∷◌, ◌++◌, Some, None, inl, inr, refl, sym, ap, ◌∙◌, subst, arith, is_some, Contains, list_any, cases_Bool, eqb-true, and_parts, or_cases, or_right, false≢true, All-from_recursion}
+use Rattle.money_laws.proofs.CoinWords.{u32str, u32_at, public_key_of, leaf_string, Owner, SignedTx, RawOpening, Links, RootCall, CoinView, owner_text, body_text, signed_text, now, blocks, coins, block_at, coin_at, responses, Exit, exits, exit_at, exits_of, is_withdrawn, answer_to, is_accepted, pays, takes, share_of, balance_of, funded, is_absent, transfer_of, opens_block, links_in, committed_blocks, AreLinked, IsHistory, next_link, Has, has-contains, is_owner}
+use Rattle.money_laws.proofs.NodeWords.{due_for_kept}
+use Rattle.money_laws.proofs.WorldWords.{Event, Joins, log_of, wallet_owner, accepted, bound_by, is_bundle, openings_of, seen, strings_of, has_clash, collides, is_forged, was_deposited, Taken, HasDue, LegalAccept, LegalWatch, IsLegal, fresh_offers, some_same, holding, me, stranger, tag, rules, transfer, signed, print, digest, shows, link, bundle, received, old_exit, after, tests, left_behind, AnAfterNeedsNoMoney}
 use Rattle.plasma_tx.specs.declared.links.Link.{Link}
-use Rattle.plasma_tx.specs.declared.links.Links.{Links}
-use Rattle.plasma_tx.specs.declared.call.RootCall.{RootCall}
-use Rattle.plasma_tx.specs.declared.views.CoinView.{CoinView}
-use Rattle.plasma_tx.specs.Spelling.{owner_text, body_text, signed_text}
-use Rattle.plasma_tx.specs.Views.{now, blocks, coins, block_at, coin_at, responses, Exit, exits, exit_at, exits_of, is_withdrawn}
-use Rattle.plasma_tx.specs.Table.{answer_to, is_accepted}
-use Rattle.plasma_tx.specs.Money.{pays, takes, share_of, balance_of, funded}
-use Rattle.coin_history.specs.History.{is_absent, transfer_of, opens_block, links_in, committed_blocks, AreLinked, IsHistory}
-use Rattle.watch_duty.specs.Duty.{next_link}
-use Rattle.watch_duty.proofs.Members.{Has, has-contains}
-use Rattle.wallet_core.specs.State.{is_owner}
-use Rattle.node_rules.specs.Watcher.{due_for_kept}
-use Rattle.world_rules.specs.Events.{Event, Joins, log_of, wallet_owner, accepted, bound_by, is_bundle}
-use Rattle.world_rules.specs.Exhibits.{openings_of, seen, strings_of, has_clash, collides, is_forged}
-use Rattle.world_rules.specs.Safety.{was_deposited}
-use Rattle.world_laws.specs.Legal.{Taken, HasDue, LegalAccept, LegalWatch, IsLegal}
-use Rattle.world_laws.specs.LegalLaws.{fresh_offers}
-use Rattle.world_laws.proofs.Lists.{some_same}
-use Rattle.world_laws.proofs.Bound.{holding}
-use Rattle.money_laws.specs.Samples.{me, stranger, tag, rules, transfer, signed, print, digest, shows, link, bundle, received, old_exit, after}
-use Rattle.money_laws.specs.Worked.{tests, left_behind, AnAfterNeedsNoMoney}
 use Rattle.money_laws.proofs.Shows.{signs, signs_not, IsWorked, transfer_shown, opened, shown}
 use Rattle.money_laws.proofs.Clear.{clear}
 use Rattle.money_laws.proofs.Taken.{after-taken}
@@ -166,8 +138,7 @@ watches = record {
   all = λ c e top.
       let h = holding exited 1 c e top.held in
       elim h.source [
-        | inl made ↦
-            absurd (false≢true (sym (where-held h.me c e (some_same h.me me (sym h.me_is))) ∙ made))
+        | inl made ↦ absurd (false≢true (sym (where-held h.me c e (some_same h.me me (sym h.me_is))) ∙ made))
         | inr got ↦ at c e got
       ];
   only = λ call there. record {
@@ -218,8 +189,7 @@ after-accepted =
 
 after-legal : IsLegal tests rules (Joins after ∷ left_behind)
 unfolding IsLegal wallet_owner
-after-legal =
-    (legal-call left_behind after (λ w owner is. mine-by (1 == w) owner is) after-accepted refl, left-legal)
+after-legal = (legal-call left_behind after (λ w owner is. mine-by (1 == w) owner is) after-accepted refl, left-legal)
 
 -- ---- nothing is shown
 

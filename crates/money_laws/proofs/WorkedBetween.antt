@@ -1,27 +1,8 @@
 -- The worked list in which a Between takes no money.
-use Rattle.std.proofs.Common.{◌≡◌, ℕ, ◌<◌, ◌==◌, ◌||◌, ◌&&◌, true, false, if◌then◌else◌, List, [], ◌∷◌, ◌++◌, inl, inr, refl, sym, ap, ◌∙◌, subst, arith}
-use Rattle.std.specs.List.{Contains, list_any}
-use Rattle.std.proofs.lemmas.Bool.{eqb-true, and_parts, or_cases, false≢true}
-use Rattle.sparse_merkle.specs.TreeDigest.{leaf_string}
-use Rattle.plasma_tx.specs.declared.call.Shown.TheVariants.{Deposit as AtDeposit}
-use Rattle.plasma_tx.specs.declared.call.RootCall.{RootCall}
-use Rattle.plasma_tx.specs.declared.call.RootCall.TheVariants.{Commit}
-use Rattle.plasma_tx.specs.Spelling.{owner_text, body_text, signed_text}
-use Rattle.plasma_tx.specs.Views.{now, blocks, coins, block_at, coin_at, responses, owner_of_opening, Exit, exits, exit_at, exits_of, is_withdrawn}
-use Rattle.plasma_tx.specs.Table.{answer_to, is_accepted}
-use Rattle.plasma_tx.specs.Money.{pays, takes, share_of, balance_of}
-use Rattle.coin_history.specs.History.{links_in}
-use Rattle.watch_duty.specs.Duty.{next_link}
-use Rattle.watch_duty.proofs.Members.{Has, has-contains}
-use Rattle.node_rules.specs.Watcher.{due_for_kept}
-use Rattle.world_rules.specs.Events.{Event, Joins, log_of, wallet_owner, accepted, bound_by, is_bundle}
-use Rattle.world_rules.specs.Exhibits.{openings_of, seen, strings_of, has_clash, collides, is_forged}
-use Rattle.world_laws.specs.Legal.{Taken, HasDue, LegalWatch, IsLegal}
-use Rattle.world_laws.specs.LegalLaws.{fresh_offers}
-use Rattle.world_laws.proofs.Lists.{some_same}
-use Rattle.world_laws.proofs.Bound.{holding}
-use Rattle.money_laws.specs.Samples.{me, stranger, tag, rules, transfer, signed, print, digest, root_with, shows, link, bundle, received, commits, second, second_exit, between}
-use Rattle.money_laws.specs.Worked.{tests, spent_twice, ABetweenNeedsNoMoney}
+use Rattle.money_laws.proofs.Basics.{◌≡◌, ℕ, ◌<◌, ◌==◌, ◌||◌, ◌&&◌, true, false, if◌then◌else◌, List, [], ◌∷◌, ◌++◌, inl, inr, refl, sym, ap, ◌∙◌, subst, arith, Contains, list_any, eqb-true, and_parts, or_cases, false≢true}
+use Rattle.money_laws.proofs.CoinWords.{leaf_string, AtDeposit, RootCall, Commit, owner_text, body_text, signed_text, now, blocks, coins, block_at, coin_at, responses, owner_of_opening, Exit, exits, exit_at, exits_of, is_withdrawn, answer_to, is_accepted, pays, takes, share_of, balance_of, links_in, next_link, Has, has-contains}
+use Rattle.money_laws.proofs.NodeWords.{due_for_kept}
+use Rattle.money_laws.proofs.WorldWords.{Event, Joins, log_of, wallet_owner, accepted, bound_by, is_bundle, openings_of, seen, strings_of, has_clash, collides, is_forged, Taken, HasDue, LegalWatch, IsLegal, fresh_offers, some_same, holding, me, stranger, tag, rules, transfer, signed, print, digest, root_with, shows, link, bundle, received, commits, second, second_exit, between, tests, spent_twice, ABetweenNeedsNoMoney}
 use Rattle.money_laws.proofs.Shows.{signs, signs_not, IsWorked, shown}
 use Rattle.money_laws.proofs.Clear.{clear}
 use Rattle.money_laws.proofs.Taken.{start-taken, between-taken}
@@ -46,8 +27,7 @@ block-mine w owner is = mine-by (1 == w) owner is
 
 block-legal : IsLegal tests rules planted_block
 unfolding IsLegal
-block-legal =
-    (legal-call received (Commit 9 (root_with 1 second)) received-mine commit-accepted refl, received-legal)
+block-legal = (legal-call received (Commit 9 (root_with 1 second)) received-mine commit-accepted refl, received-legal)
 
 exit-accepted : is_accepted (answer_to tests rules (log_of planted_block) second_exit) ≡ true
 unfolding log_of shows signed balance_of pays takes share_of now blocks coins block_at coin_at responses exits exit_at
@@ -78,8 +58,7 @@ watches = record {
   all = λ c e top.
       let h = holding exited 1 c e top.held in
       elim h.source [
-        | inl made ↦
-            absurd (false≢true (sym (where-held h.me c e (some_same h.me me (sym h.me_is))) ∙ made))
+        | inl made ↦ absurd (false≢true (sym (where-held h.me c e (some_same h.me me (sym h.me_is))) ∙ made))
         | inr got ↦ at c e got
       ];
   only = λ call there. record {

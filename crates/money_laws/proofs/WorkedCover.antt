@@ -1,20 +1,7 @@
 -- The worked list in which the stranger's friend challenges the exit first.
-use Rattle.std.proofs.Common.{◌≡◌, ◌||◌, true, false, List, [], ◌∷◌, ◌++◌, inl, inr, refl, ap, subst, arith}
-use Rattle.std.specs.List.{Contains}
-use Rattle.plasma_tx.specs.declared.call.RootCall.TheVariants.{Tick}
-use Rattle.plasma_tx.specs.declared.call.Shown.TheVariants.{Spend}
-use Rattle.plasma_tx.specs.declared.answer.Answer.TheVariants.{Dropped}
-use Rattle.plasma_tx.specs.Views.{now, blocks, coins, block_at, coin_at, responses, owner_of_opening, Challenge, Exit, exits, exit_at, is_withdrawn}
-use Rattle.plasma_tx.specs.Table.{answer_to, is_accepted}
-use Rattle.plasma_tx.specs.Money.{pays, takes, share_of, balance_of}
-use Rattle.watch_duty.proofs.Members.{Has, contains-has}
-use Rattle.world_rules.specs.Events.{Event, Joins, log_of, wallet_owner, accepted, bound_by, taken_back, not_taken}
-use Rattle.world_rules.specs.Exhibits.{openings_of, seen, is_forged}
-use Rattle.world_laws.specs.Legal.{IsLegal}
-use Rattle.money_laws.specs.Keepers.{keeps, IsKeeper}
-use Rattle.money_laws.specs.MoneyLaws.{wins_in, OnlyGuarded}
-use Rattle.money_laws.specs.Samples.{tag, rules, transfer, stranger, unsigned, digest, shows, planted, hidden, taken, began, attacked, before_one, before_by_friend}
-use Rattle.money_laws.specs.Worked.{tests, finish, covering, covered, AttackCostsNothing}
+use Rattle.money_laws.proofs.Basics.{◌≡◌, ◌||◌, true, false, List, [], ◌∷◌, ◌++◌, inl, inr, refl, ap, subst, arith, Contains}
+use Rattle.money_laws.proofs.CoinWords.{Tick, Spend, Dropped, now, blocks, coins, block_at, coin_at, responses, owner_of_opening, Challenge, Exit, exits, exit_at, is_withdrawn, answer_to, is_accepted, pays, takes, share_of, balance_of, Has, contains-has}
+use Rattle.money_laws.proofs.WorldWords.{Event, Joins, log_of, wallet_owner, accepted, bound_by, taken_back, not_taken, openings_of, seen, is_forged, IsLegal, keeps, IsKeeper, wins_in, OnlyGuarded, tag, rules, transfer, stranger, unsigned, digest, shows, planted, hidden, taken, began, attacked, before_one, before_by_friend, tests, finish, covering, covered, AttackCostsNothing}
 use Rattle.money_laws.proofs.Shows.{unsigned_not}
 use Rattle.money_laws.proofs.Taken.{before-taken}
 use Rattle.money_laws.proofs.Began.{IsMine, began-mine, began-40, legal-call, attacked-legal, attacked-honest, hidden-worked, forges-not, owner-shown, clear-hidden, whole-by}
@@ -160,8 +147,7 @@ only-covered = (
       (
         record {
           no_start = refl;
-          for_keepers =
-              kept-all (Joins before_by_friend) (attacked 40) [] exits-first (λ ch none by. absurd none);
+          for_keepers = kept-all (Joins before_by_friend) (attacked 40) [] exits-first (λ ch none by. absurd none);
         },
         (
           record {

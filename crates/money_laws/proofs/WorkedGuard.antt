@@ -1,29 +1,9 @@
 -- The worked lists in which the first exit is guarded.
-use Rattle.std.proofs.Common.{◌≡◌, ◌⊎◌, ℕ, ◌==◌, true, false, if◌then◌else◌, List, [], ◌∷◌, ◌++◌, Option, Some, None, inl, inr, refl, sym, ap, ◌∙◌, subst}
-use Rattle.std.specs.List.{Contains, list_any}
-use Rattle.std.proofs.lemmas.Bool.{cases_Bool, eqb-true, and_parts, false≢true}
-use Rattle.plasma_tx.specs.declared.owner.Owner.{Owner}
-use Rattle.plasma_tx.specs.declared.call.RootCall.{RootCall}
-use Rattle.plasma_tx.specs.declared.call.RootCall.TheVariants.{Tick}
-use Rattle.plasma_tx.specs.declared.views.CoinView.{CoinView}
-use Rattle.plasma_tx.specs.Views.{now, blocks, coins, block_at, coin_at, responses, owner_of_opening, Challenge, Exit, exits, exit_at, exits_of, is_withdrawn}
-use Rattle.plasma_tx.specs.Table.{answer_to, is_accepted}
-use Rattle.plasma_tx.specs.Money.{pays, takes, share_of, balance_of}
-use Rattle.coin_history.specs.History.{links_in}
+use Rattle.money_laws.proofs.Basics.{◌≡◌, ◌⊎◌, ℕ, ◌==◌, true, false, if◌then◌else◌, List, [], ◌∷◌, ◌++◌, Option, Some, None, inl, inr, refl, sym, ap, ◌∙◌, subst, Contains, list_any, cases_Bool, eqb-true, and_parts, false≢true}
+use Rattle.money_laws.proofs.CoinWords.{Owner, RootCall, Tick, CoinView, now, blocks, coins, block_at, coin_at, responses, owner_of_opening, Challenge, Exit, exits, exit_at, exits_of, is_withdrawn, answer_to, is_accepted, pays, takes, share_of, balance_of, links_in, next_link, Has, contains-has, has-contains}
+use Rattle.money_laws.proofs.NodeWords.{due_for_kept}
+use Rattle.money_laws.proofs.WorldWords.{Event, Joins, log_of, wallet_owner, accepted, bound_by, taken_back, not_taken, is_bundle, guarded_by, openings_of, seen, collides, is_forged, was_deposited, holds, Bare, IsGuarding, ShowsGuard, HasDue, LegalWatch, IsLegal, has_look, is_looked_after, holding, keeps, IsKeeper, wins_in, OnlyGuarded, me, tag, rules, digest, shows, planted, taken, attacked, before_one, tests, guarding_begins, challenged, finish, guarding, GuardingIsTight, IsGuarded}
 use Rattle.coin_history.specs.declared.bundle.Bundle.{Bundle}
-use Rattle.watch_duty.specs.Duty.{next_link}
-use Rattle.watch_duty.proofs.Members.{Has, contains-has, has-contains}
-use Rattle.node_rules.specs.Watcher.{due_for_kept}
-use Rattle.world_rules.specs.Events.{Event, Joins, log_of, wallet_owner, accepted, bound_by, taken_back, not_taken, is_bundle, guarded_by}
-use Rattle.world_rules.specs.Exhibits.{openings_of, seen, collides, is_forged}
-use Rattle.world_rules.specs.Safety.{was_deposited, holds}
-use Rattle.world_laws.specs.Legal.{Bare, IsGuarding, ShowsGuard, HasDue, LegalWatch, IsLegal}
-use Rattle.world_laws.specs.Looked.{has_look, is_looked_after}
-use Rattle.world_laws.proofs.Bound.{holding}
-use Rattle.money_laws.specs.Keepers.{keeps, IsKeeper}
-use Rattle.money_laws.specs.MoneyLaws.{wins_in, OnlyGuarded}
-use Rattle.money_laws.specs.Samples.{me, tag, rules, digest, shows, planted, taken, attacked, before_one}
-use Rattle.money_laws.specs.Worked.{tests, guarding_begins, challenged, finish, guarding, GuardingIsTight, IsGuarded}
 use Rattle.money_laws.proofs.Began.{IsMine, began-mine, began-40, legal-call, attacked-legal, attacked-honest, clear-one, whole-by}
 
 -- ---- what a wallet guards
@@ -257,8 +237,7 @@ only-guarded = (
     (
       record {
         no_start = refl;
-        for_keepers =
-            kept-all (Joins before_one) guarding_begins [] exits-begin (λ ch none mine. absurd none);
+        for_keepers = kept-all (Joins before_one) guarding_begins [] exits-begin (λ ch none mine. absurd none);
       },
       tt,
     ),

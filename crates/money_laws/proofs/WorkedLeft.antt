@@ -1,28 +1,7 @@
 -- The worked list in which the wallet leaves first.
-use Rattle.std.proofs.Common.{◌≡◌, ℕ, ◌==◌, ◌≤◌, ◌||◌, Bool, true, false, if◌then◌else◌, List, [], ◌∷◌, Some, None, inl, inr, refl, sym, ap, subst, arith}
-use Rattle.std.specs.List.{Contains}
-use Rattle.std.proofs.lemmas.Bool.{eqb-true, and_parts, or_cases, false≢true}
-use Rattle.plasma_tx.specs.declared.owner.Owner.{Owner}
-use Rattle.plasma_tx.specs.declared.links.Links.{Links}
-use Rattle.plasma_tx.specs.declared.call.RootCall.{RootCall}
-use Rattle.plasma_tx.specs.declared.call.RootCall.TheVariants.{Tick, Finish}
-use Rattle.plasma_tx.specs.declared.answer.Answer.TheVariants.{Paid}
-use Rattle.plasma_tx.specs.Views.{now, blocks, coins, block_at, coin_at, responses, exits, exit_at, is_withdrawn}
-use Rattle.plasma_tx.specs.Table.{answer_to, is_accepted}
-use Rattle.plasma_tx.specs.Money.{pays, takes, share_of, balance_of}
-use Rattle.coin_history.specs.History.{links_in}
-use Rattle.wallet_core.specs.State.{is_owner}
-use Rattle.watch_duty.proofs.Members.{has-contains}
-use Rattle.world_rules.specs.Events.{Event, Joins, Leaves, log_of, wallet_owner, accepted, bound_by, taken_back, not_taken, guarded_by}
-use Rattle.world_rules.specs.Exhibits.{openings_of, seen, is_forged}
-use Rattle.world_rules.specs.Safety.{was_deposited, holds, call_harms, is_safe}
-use Rattle.world_laws.specs.Legal.{Bare, is_tip, left_by, LegalLeave, LegalCall, IsLegal}
-use Rattle.world_laws.specs.Looked.{has_look, is_looked_after}
-use Rattle.world_laws.proofs.Lists.{none_some}
-use Rattle.money_laws.specs.First.{has_led, ends_first}
-use Rattle.money_laws.specs.MoneyLaws.{is_in_time}
-use Rattle.money_laws.specs.Samples.{me, tag, rules, transfer, stranger, signed, unsigned, shows, planted, taken, began, exit_one, own_exit}
-use Rattle.money_laws.specs.Worked.{tests, finish, raced, ShowsNothing, LeavingFirstIsTight}
+use Rattle.money_laws.proofs.Basics.{◌≡◌, ℕ, ◌==◌, ◌≤◌, ◌||◌, Bool, true, false, if◌then◌else◌, List, [], ◌∷◌, Some, None, inl, inr, refl, sym, ap, subst, arith, Contains, eqb-true, and_parts, or_cases, false≢true}
+use Rattle.money_laws.proofs.CoinWords.{Owner, Links, RootCall, Tick, Finish, Paid, now, blocks, coins, block_at, coin_at, responses, exits, exit_at, is_withdrawn, answer_to, is_accepted, pays, takes, share_of, balance_of, links_in, is_owner, has-contains}
+use Rattle.money_laws.proofs.WorldWords.{Event, Joins, Leaves, log_of, wallet_owner, accepted, bound_by, taken_back, not_taken, guarded_by, openings_of, seen, is_forged, was_deposited, holds, call_harms, is_safe, Bare, is_tip, left_by, LegalLeave, LegalCall, IsLegal, has_look, is_looked_after, none_some, has_led, ends_first, is_in_time, me, tag, rules, transfer, stranger, signed, unsigned, shows, planted, taken, began, exit_one, own_exit, tests, finish, raced, ShowsNothing, LeavingFirstIsTight}
 use Rattle.money_laws.proofs.Shows.{signs_not, unsigned_not}
 use Rattle.money_laws.proofs.Began.{IsMine, began-mine, began-100, began-legal, legal-call, exit-taken, planted-worked, taken-worked, forges-not, clear-one, whole-by}
 use Rattle.money_laws.proofs.WorkedGuard.{one, bare}

@@ -1,23 +1,9 @@
 -- The worked list in which two coins are attacked.
-use Rattle.std.proofs.Common.{◌≡◌, ◌⊎◌, ℕ, true, false, List, [], ◌∷◌, inl, inr, refl, sym, subst, arith}
-use Rattle.std.specs.List.{Contains}
-use Rattle.plasma_tx.specs.declared.call.RootCall.{RootCall}
-use Rattle.plasma_tx.specs.Views.{now, blocks, coins, block_at, coin_at, responses, exits, exit_at, exits_of, is_withdrawn}
-use Rattle.plasma_tx.specs.Table.{answer_to, is_accepted}
-use Rattle.plasma_tx.specs.Money.{pays, takes, share_of, balance_of}
-use Rattle.coin_history.specs.History.{links_in}
-use Rattle.watch_duty.specs.Duty.{next_link}
-use Rattle.watch_duty.proofs.Members.{Has, contains-has, has-contains}
-use Rattle.node_rules.specs.Watcher.{due_for_kept}
-use Rattle.world_rules.specs.Events.{Event, Joins, log_of, wallet_owner, accepted}
-use Rattle.world_rules.specs.Exhibits.{openings_of, seen, collides}
-use Rattle.world_laws.specs.Legal.{IsLegal}
-use Rattle.world_laws.specs.LegalLaws.{fresh_offers}
-use Rattle.money_laws.specs.Bonds.{sum_over}
-use Rattle.money_laws.specs.Reserve.{reserve_of, AreApart, AreAccepted, with_calls}
-use Rattle.money_laws.specs.MoneyLaws.{AreOnOffer}
-use Rattle.money_laws.specs.Samples.{tag, rules, digest, shows, planted, taken, began, exit_two, attacked, before_one, before_two}
-use Rattle.money_laws.specs.Worked.{tests, watched, tips, IsAttacked, ReserveIsTight}
+use Rattle.money_laws.proofs.Basics.{◌≡◌, ◌⊎◌, ℕ, true, false, List, [], ◌∷◌, inl, inr, refl, sym, subst, arith, Contains}
+use Rattle.money_laws.proofs.CoinWords.{RootCall, now, blocks, coins, block_at, coin_at, responses, exits, exit_at, exits_of, is_withdrawn, answer_to, is_accepted, pays, takes, share_of, balance_of, links_in, next_link, Has, contains-has, has-contains}
+use Rattle.money_laws.proofs.NodeWords.{due_for_kept}
+use Rattle.money_laws.proofs.WorldWords.{Event, Joins, log_of, wallet_owner, accepted, openings_of, seen, collides, IsLegal, fresh_offers, sum_over, reserve_of, AreApart, AreAccepted, with_calls, AreOnOffer, tag, rules, digest, shows, planted, taken, began, exit_two, attacked, before_one, before_two, tests, tips, IsAttacked, ReserveIsTight}
+use Rattle.money_laws.specs.Worked.{watched}
 use Rattle.money_laws.proofs.Began.{digests, began-mine, began-80, began-79, are_taken, legal-call, exit-taken, attacked-legal, clear-one, clear-two, whole-by}
 use Rattle.money_laws.proofs.WorkedGuard.{two, bare, watch-legal}
 

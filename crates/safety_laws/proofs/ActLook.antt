@@ -1,32 +1,8 @@
 -- What a look shows whose word is Act: till the last moment for the first call nothing goes wrong.
-use Rattle.std.proofs.Common.{◌-◌, ◌≡◌, ◌⊎◌, ℕ, ◌+◌, ◌<◌, ◌≤◌, ◌==◌, List, [], ◌∷◌, map, Option, Some, None, option_map, inl, inr, refl, sym, ap, ◌∙◌, subst, arith, find, filter, rules}
-use Rattle.std.specs.Prelude.{is_none}
-use Rattle.std.specs.Option.{option_map_or}
-use Rattle.std.specs.List.{Contains}
-use Rattle.std.proofs.lemmas.Bool.{cases_Bool, cases_eq, ne_eqb, eq-eqb, eqb-true, and_from}
-use Rattle.std.proofs.lemmas.Grind.{common_steps}
-use Rattle.plasma_tx.specs.declared.owner.Owner.{Owner}
-use Rattle.plasma_tx.specs.declared.call.RootCall.{RootCall}
-use Rattle.plasma_tx.specs.declared.call.RootCall.TheVariants.{Respond}
-use Rattle.plasma_tx.specs.declared.views.ChallengeView.{ChallengeView}
-use Rattle.plasma_tx.specs.declared.views.ExitView.{ExitView}
-use Rattle.plasma_tx.specs.declared.rules.TheConstants.{CHALLENGE_WINDOW, RESPONSE_WINDOW}
-use Rattle.plasma_tx.specs.Views.{now, Challenge, Exit, is_exit, exits, exit_at, challenge_at, challenge_view, exit_view, exits_of}
-use Rattle.plasma_tx.specs.Shown.{Rules, tests_by}
-use Rattle.plasma_tx.proofs.RuleNames.{exits-distinct, is_at, challenged-once}
-use Rattle.watch_duty.specs.Duty.{due_for, due_of}
-use Rattle.watch_duty.proofs.Members.{Has, has-contains, has-filter, has-map, only-found}
-use Rattle.watch_duty.proofs.Dues.{IsDue, due_for-due}
-use Rattle.world_rules.specs.Laws.{IsDigest}
-use Rattle.world_rules.specs.Events.{Event, log_of}
-use Rattle.world_laws.specs.Legal.{IsLegal}
-use Rattle.coin_safety.specs.declared.kept.Kept.{Kept}
-use Rattle.coin_safety.specs.Numbers.{later}
-use Rattle.coin_safety.specs.Advice.{standing, tip, exit_in, due}
-use Rattle.coin_safety.specs.Words.{answer_end, window_end, end_of_call}
-use Rattle.coin_safety.specs.Laws.{AreAhead}
-use Rattle.safety_laws.specs.Look.{IsLook}
-use Rattle.safety_laws.proofs.AtLook.{has-flat, standing-has, ahead-window, ahead-answer, at, others-apart, others-seen, tip-seen, StandsTill}
+use Rattle.safety_laws.proofs.Basics.{◌-◌, ◌≡◌, ◌⊎◌, ℕ, ◌+◌, ◌<◌, ◌≤◌, ◌==◌, List, [], ◌∷◌, map, Option, Some, None, option_map, inl, inr, refl, sym, ap, ◌∙◌, subst, arith, find, filter, rules, is_none, option_map_or, Contains, cases_Bool, cases_eq, ne_eqb, eq-eqb, eqb-true, and_from, common_steps}
+use Rattle.safety_laws.proofs.CoinWords.{Owner, RootCall, Respond, ChallengeView, ExitView, CHALLENGE_WINDOW, RESPONSE_WINDOW, now, Challenge, Exit, is_exit, exits, exit_at, challenge_at, challenge_view, exit_view, exits_of, Rules, tests_by, exits-distinct, is_at, challenged-once, due_for, due_of, Has, has-contains, has-filter, has-map, only-found, IsDue, due_for-due, Kept, later, standing, tip, exit_in, due, answer_end, window_end, end_of_call, AreAhead}
+use Rattle.safety_laws.proofs.WorldWords.{IsDigest, Event, log_of, IsLegal, IsLook, has-in-flat_map}
+use Rattle.safety_laws.proofs.AtLook.{standing-has, ahead-window, ahead-answer, at, others-apart, others-seen, tip-seen, StandsTill}
 
 -- ---- what is found in the views
 
@@ -135,7 +111,7 @@ module _ (dig : List ℕ → List ℕ) (digest : IsDigest dig) (rules : Rules) (
             (ap (λ b. is_none (challenge_at b y.challenges)) look.tip_is ∙ free))) [
               | inl found ↦ elim (exit-ends y there own found.0
                   (due_for-due (log_of events) account kept.links (exit_view y) found.0 found.1)
-                  (due-ends found.0 (has-flat (due_for (log_of events) account kept.links)
+                  (due-ends found.0 (has-in-flat_map (due_for (log_of events) account kept.links)
                   (exits_of (log_of events) kept.links.coin) (exit_view y) found.0
                   (standing-has (log_of events) kept y there own) found.1))) [
                     | inl less ↦ inr (omega (arith, less, early))

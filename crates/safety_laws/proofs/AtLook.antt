@@ -1,65 +1,12 @@
 -- What a look shows: of each standing exit of the coin, a call is due for it, or it does no harm yet.
-use Rattle.std.proofs.Common.{◌≡◌, ◌⊎◌, ℕ, ◌+◌, ◌<◌, ◌==◌, ◌||◌, not, Bool, true, false, if◌then◌else◌, List, [], ◌∷◌, map, Some, inl, inr, refl, sym, ap, ◌∙◌, subst, arith, find, filter}
-use Rattle.std.specs.Prelude.{is_none}
-use Rattle.std.specs.List.{list_any, flat_map}
-use Rattle.std.proofs.lemmas.Bool.{cases_Bool, cases_eq, ne_eqb, eq-eqb, true≢false, false≢true, not_from_false}
-use Rattle.plasma_tx.specs.declared.owner.Owner.{Owner}
-use Rattle.plasma_tx.specs.declared.signed_tx.SignedTx.{SignedTx}
-use Rattle.plasma_tx.specs.declared.links.Link.{Link}
+use Rattle.safety_laws.proofs.Basics.{◌≡◌, ◌⊎◌, ℕ, ◌+◌, ◌<◌, ◌==◌, not, Bool, true, false, if◌then◌else◌, List, [], ◌∷◌, map, Some, inl, inr, refl, sym, ap, ◌∙◌, subst, arith, filter, is_none, cases_Bool, cases_eq, ne_eqb, eq-eqb, true≢false, not_from_false}
+use Rattle.safety_laws.proofs.CoinWords.{Owner, SignedTx, Link, RootCall, Respond, ChallengeView, ExitView, CHALLENGE_WINDOW, RESPONSE_WINDOW, is_challenged, tip_of, is_signed_by, now, Challenge, Exit, exits, challenge_at, challenge_view, exit_view, exits_of, block_of, Tests, Rules, tests_by, due_for, due_of, tip_shown, Has, all-has, any-map, has-contains, has-flat_map, Kept, later, standing, tip, answer_ends, ends_of, ends, AreAhead, NothingIsDue}
+use Rattle.safety_laws.proofs.WorldWords.{IsDigest, Event, Idle, log_of, wallet_owner, openings_of, seen, strings_of, has_clash, collides, is_mine, IsLegal, some_same, has-kept, none-any, has-in-flat_map, one_leaf, Deposited, Transferred, IsBegun, OfDeposit, OfSpend, IsKept, holding, HeldAt, IsGoodGuard, has-mapped, OffersDue, shows-kept, kept-some, history-good, at_event, AtEvent, OfHeld, of_held, owner-before, others-due, mine-due, IsKeptBy, IsLook}
 use Rattle.plasma_tx.specs.declared.links.Links.{Links}
-use Rattle.plasma_tx.specs.declared.call.RootCall.{RootCall}
-use Rattle.plasma_tx.specs.declared.call.RootCall.TheVariants.{Respond}
-use Rattle.plasma_tx.specs.declared.views.ChallengeView.{ChallengeView}
-use Rattle.plasma_tx.specs.declared.views.ExitView.{ExitView}
-use Rattle.plasma_tx.specs.declared.rules.TheConstants.{CHALLENGE_WINDOW, RESPONSE_WINDOW}
-use Rattle.plasma_tx.specs.ChallengeLists.{is_challenged}
-use Rattle.plasma_tx.specs.Links.{tip_of}
-use Rattle.plasma_tx.specs.Transfer.{is_signed_by}
-use Rattle.plasma_tx.specs.Views.{now, Challenge, Exit, exits, challenge_at, challenge_view, exit_view, exits_of, block_of}
-use Rattle.plasma_tx.specs.Shown.{Tests, Rules, tests_by}
 use Rattle.coin_history.specs.declared.bundle.Bundle.{Bundle}
-use Rattle.watch_duty.specs.Duty.{due_for, due_of, tip_shown}
-use Rattle.watch_duty.proofs.Members.{Has, has-left, has-right, all-has, any-map, has-contains, has-flat_map}
-use Rattle.world_rules.specs.Laws.{IsDigest}
-use Rattle.world_rules.specs.Events.{Event, Idle, log_of, wallet_owner}
-use Rattle.world_rules.specs.Exhibits.{openings_of, seen, strings_of, has_clash, collides}
-use Rattle.world_rules.specs.Safety.{is_mine}
-use Rattle.world_laws.specs.Legal.{IsLegal}
-use Rattle.world_laws.proofs.Lists.{some_same}
-use Rattle.world_laws.proofs.Clash.{one_leaf}
-use Rattle.world_laws.proofs.Shown.{Deposited, Transferred, IsBegun, OfDeposit, OfSpend}
-use Rattle.world_laws.proofs.Bound.{IsKept, holding}
-use Rattle.world_laws.proofs.Held.{HeldAt, IsGoodGuard}
-use Rattle.world_laws.proofs.DueCalls.{has-mapped, has-kept, OffersDue}
-use Rattle.world_laws.proofs.DueTaken.{shows-kept}
-use Rattle.world_laws.proofs.Guards.{kept-some, history-good}
-use Rattle.world_laws.proofs.Before.{at_event}
-use Rattle.world_laws.proofs.Watched.{AtEvent}
-use Rattle.world_laws.proofs.Steps.{OfHeld, of_held, owner-before, others-due, mine-due}
-use Rattle.coin_safety.specs.declared.kept.Kept.{Kept}
-use Rattle.coin_safety.specs.Numbers.{later}
-use Rattle.coin_safety.specs.Advice.{standing, tip}
-use Rattle.coin_safety.specs.Words.{answer_ends, ends_of}
-use Rattle.coin_safety.specs.Laws.{ends, AreAhead, NothingIsDue}
-use Rattle.safety_laws.specs.Look.{IsKeptBy, IsLook}
 use Rattle.safety_laws.proofs.Unspent.{IsUnspent, unspent_exits}
 
 -- ---- lists
-
-pub has-flat : {X Y : Type 0} (f : X → List Y) (xs : List X) (x : X) (y : Y) → Has xs x → Has (f x) y
-    → Has (flat_map f xs) y
-has-flat f [] x y h is = absurd h
-has-flat f (z ∷ zs) x y (inl same) is =
-    has-left (f z) (flat_map f zs) y (subst (λ w. Has (f w) y) (sym same) is)
-has-flat f (z ∷ zs) x y (inr h) is = has-right (f z) (flat_map f zs) y (has-flat f zs x y h is)
-
-none-any : {X : Type 0} (p : X → Bool) (xs : List X) → is_none (find p xs) ≡ true → list_any p xs ≡ false
-none-any p [] none = refl
-none-any p (x ∷ xs) none =
-    (elim (p x) as (λ b. is_none (if b then Some x else find p xs) ≡ true → (b || list_any p xs) ≡ false) [
-      | true ↦ λ wrong. absurd (false≢true wrong)
-      | false ↦ λ rest. none-any p xs rest
-    ]) none
 
 -- a standing exit of the coin is seen in the views
 pub standing-has : (log : List RootCall) (kept : Kept) (x : Exit) → Has (exits log) x → x.coin ≡ kept.links.coin
@@ -84,7 +31,7 @@ pub window-ends : (log : List RootCall) (kept : Kept) (x : Exit) → Has (exits 
     → (x.block == tip kept) ≡ false → is_none (challenge_at (tip kept) x.challenges) ≡ true
     → Has (ends log kept) (later x.start CHALLENGE_WINDOW)
 window-ends log kept x there c_is apart none =
-    has-flat (ends_of (tip kept)) (standing log kept) (exit_view x) (later x.start CHALLENGE_WINDOW)
+    has-in-flat_map (ends_of (tip kept)) (standing log kept) (exit_view x) (later x.start CHALLENGE_WINDOW)
     (standing-has log kept x there c_is)
     (subst (λ (b : Bool). Has (if b then answer_ends (map challenge_view x.challenges)
     else if is_challenged (tip kept) (map challenge_view x.challenges) then []
@@ -97,7 +44,7 @@ pub answer-ends : (log : List RootCall) (kept : Kept) (x : Exit) → Has (exits 
     → (x.block == tip kept) ≡ true → (ch : Challenge) → Has x.challenges ch → ch.answered ≡ false
     → Has (ends log kept) (later ch.at RESPONSE_WINDOW)
 answer-ends log kept x there c_is at ch has still =
-    has-flat (ends_of (tip kept)) (standing log kept) (exit_view x) (later ch.at RESPONSE_WINDOW)
+    has-in-flat_map (ends_of (tip kept)) (standing log kept) (exit_view x) (later ch.at RESPONSE_WINDOW)
     (standing-has log kept x there c_is)
     (subst (λ (b : Bool). Has (if b then answer_ends (map challenge_view x.challenges)
     else if is_challenged (tip kept) (map challenge_view x.challenges) then []

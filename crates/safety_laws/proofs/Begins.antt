@@ -1,21 +1,8 @@
 -- A wallet comes to hold a coin in time, and for as long as after a look no exit of it comes too late.
-use Rattle.std.proofs.Common.{◌≡◌, ℕ, not, false, List, [], ◌∷◌, ◌++◌, inl, inr, sym, ◌∙◌, arith, rules}
-use Rattle.std.proofs.Math.Nat.{le_refl}
-use Rattle.std.proofs.lemmas.Bool.{and_from, not_from_false, true≢false}
-use Rattle.std.proofs.lemmas.Grind.{common_steps}
-use Rattle.plasma_tx.specs.Views.{now}
-use Rattle.plasma_tx.specs.Shown.{Tests, Rules}
-use Rattle.world_rules.specs.Events.{Event, log_of, wallet_owner}
-use Rattle.world_rules.specs.Safety.{holds}
-use Rattle.world_laws.specs.Legal.{IsLegal}
-use Rattle.world_laws.proofs.Before.{NoneStands, HeldBefore, held_before}
-use Rattle.world_laws.proofs.Bound.{Holding, holding}
-use Rattle.world_laws.proofs.Guards.{holds-from}
-use Rattle.money_laws.specs.MoneyLaws.{goes_late, is_in_time}
-use Rattle.safety_laws.specs.Look.{AreShort}
-use Rattle.safety_laws.specs.Safe.{LegalHoldersBeginInTime}
+use Rattle.safety_laws.proofs.Basics.{◌≡◌, ℕ, not, false, List, [], ◌∷◌, ◌++◌, inl, inr, sym, ◌∙◌, arith, rules, le_refl, and_from, not_from_false, true≢false, common_steps}
+use Rattle.safety_laws.proofs.CoinWords.{now, Tests, Rules}
+use Rattle.safety_laws.proofs.WorldWords.{Event, log_of, wallet_owner, holds, IsLegal, NoneStands, HeldBefore, held_before, Holding, holding, holds-from, goes_late, is_in_time, AreShort, LegalHoldersBeginInTime, suffix-legal}
 use Rattle.safety_laws.proofs.AtLook.{StandsTill}
-use Rattle.safety_laws.proofs.Since.{legal-look}
 use Rattle.safety_laws.proofs.Timely.{GoesTill, none-goes, stays-in-time}
 
 -- no exit of the coin stands there
@@ -32,7 +19,7 @@ pub holders_begin_in_time : LegalHoldersBeginInTime
 unfolding is_in_time
 holders_begin_in_time tests rules later event events w c e legal unheld held short so_far =
     let all : List Event = event ∷ events in
-    let before = legal-look tests rules later (event ∷ events) legal in
+    let before = suffix-legal tests rules later (event ∷ events) legal in
     let h = holding (event ∷ events) w c e held in
     let none = none-yet tests rules event events w c e before unheld h in
     let end : ℕ = now (log_of (later ++ (event ∷ events))) in

@@ -1,23 +1,11 @@
 -- Where no money is missing, the calls are accepted one after the other.
-use Rattle.std.proofs.Common.{◌≡◌, ℕ, ◌+◌, ◌<◌, ◌≤◌, true, false, List, [], ◌∷◌, ◌++◌, inl, inr, refl, ap, ◌∙◌, subst, arith}
-use Rattle.std.specs.List.{sum_by}
-use Rattle.std.proofs.lemmas.Bool.{le-ltb}
+use Rattle.safety_laws.proofs.Basics.{◌≡◌, ℕ, ◌+◌, ◌<◌, ◌≤◌, true, false, List, [], ◌∷◌, ◌++◌, inl, inr, refl, ap, ◌∙◌, subst, arith, sum_by, le-ltb}
+use Rattle.safety_laws.proofs.CoinWords.{ExitView, balance_of, RootCall, Tests, Rules, tests_by, rules_of, IsHistory, Has, has-contains, standing, tip, takes, missing, calls_of, is_poor, with_calls}
+use Rattle.safety_laws.proofs.WorldWords.{log_of, legal-log, legal-to, LegalEnoughIsEnough, EnoughOfRunsIsEnough}
 use Rattle.std.proofs.lemmas.List.Sums.{sum_by_from}
-use Rattle.plasma_tx.specs.declared.views.ExitView.{ExitView}
-use Rattle.plasma_tx.specs.Money.{balance_of}
-use Rattle.plasma_tx.specs.declared.call.RootCall.{RootCall}
-use Rattle.plasma_tx.specs.Shown.{Tests, Rules, tests_by, rules_of}
-use Rattle.coin_history.specs.History.{IsHistory}
-use Rattle.watch_duty.proofs.Members.{Has, has-contains}
-use Rattle.world_rules.specs.Events.{log_of}
-use Rattle.world_laws.proofs.Shown.{legal-log}
 use Rattle.money_laws.specs.Reserve.{AreAccepted}
-use Rattle.money_laws.proofs.Tips.{legal-to}
-use Rattle.coin_safety.specs.Advice.{standing, tip, takes, missing, calls_of}
-use Rattle.coin_safety.specs.Laws.{is_poor, with_calls}
 use Rattle.coin_safety.proofs.Advised.{none_is_poor}
 use Rattle.coin_safety.proofs.Blocks.{after-parent, last-at, none-later}
-use Rattle.safety_laws.specs.Calls.{LegalEnoughIsEnough, EnoughOfRunsIsEnough}
 use Rattle.safety_laws.proofs.Acts.{acts_are_accepted}
 use Rattle.safety_laws.proofs.AtLook.{keeps_it}
 use Rattle.safety_laws.proofs.StillTaken.{CouldBe, is_move, IsBy, Apart, could-from, could-taken, still-could}

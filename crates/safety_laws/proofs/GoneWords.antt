@@ -1,26 +1,9 @@
 -- What the words Paid and Gone say of legal events.
-use Rattle.std.proofs.Common.{◌≡◌, ◌≢◌, ℕ, ◌==◌, ◌&&◌, not, true, false, List, [], ◌∷◌, ◌++◌, Some, refl, sym, ap, ◌∙◌, subst, arith, rules}
-use Rattle.std.proofs.lemmas.Bool.{eq-eqb, ne_eqb, and_from, and_right, or_left, or_right, not_from_true, not_from_false}
-use Rattle.std.proofs.lemmas.Grind.{common_steps}
-use Rattle.plasma_tx.specs.declared.owner.Owner.{Owner}
-use Rattle.plasma_tx.specs.declared.call.RootCall.{RootCall}
-use Rattle.plasma_tx.specs.declared.call.RootCall.TheVariants.{Finish}
+use Rattle.safety_laws.proofs.Basics.{◌≡◌, ◌≢◌, ℕ, ◌==◌, ◌&&◌, not, true, false, List, [], ◌∷◌, ◌++◌, Some, refl, sym, ap, ◌∙◌, subst, arith, rules, eq-eqb, ne_eqb, and_from, and_right, or_left, or_right, not_from_true, not_from_false, common_steps}
+use Rattle.safety_laws.proofs.CoinWords.{Owner, RootCall, Finish, Exit, exit_at, has_no_open_challenge, is_withdrawn, Tests, Rules, answer_to, accepted_calls_show, Paid, Gone, holder, next_line, starter, IsPaidOut, Tells, words_tell}
+use Rattle.safety_laws.proofs.WorldWords.{Event, Joins, log_of, wallet_owner, holds, call_harms, is_harmed, IsLegal, WasPaidTo, IsOut, LegalGoneMeansGone, LegalPaidMeansPaid, suffix-legal}
 use Rattle.plasma_tx.specs.declared.answer.Answer.TheVariants.{Paid as IsPaid}
-use Rattle.plasma_tx.specs.Views.{Exit, exit_at, has_no_open_challenge, is_withdrawn}
-use Rattle.plasma_tx.specs.Shown.{Tests, Rules}
-use Rattle.plasma_tx.specs.Table.{answer_to}
-use Rattle.plasma_tx.proofs.Accepted.{accepted_calls_show}
 use Rattle.plasma_tx.proofs.Ends.{paid_exactly}
-use Rattle.world_rules.specs.Events.{Event, Joins, log_of, wallet_owner}
-use Rattle.world_rules.specs.Safety.{holds, call_harms, is_harmed}
-use Rattle.world_laws.specs.Legal.{IsLegal}
-use Rattle.coin_safety.specs.declared.word.Word.TheVariants.{Paid, Gone}
-use Rattle.coin_safety.specs.Advice.{holder}
-use Rattle.coin_safety.specs.Words.{next_line, starter}
-use Rattle.coin_safety.specs.Laws.{IsPaidOut, Tells}
-use Rattle.coin_safety.proofs.Telling.{words_tell}
-use Rattle.safety_laws.specs.Gone.{WasPaidTo, IsOut, LegalGoneMeansGone, LegalPaidMeansPaid}
-use Rattle.safety_laws.proofs.Since.{legal-look}
 
 -- ---- the event that entered a call of the log
 
@@ -110,7 +93,7 @@ unfolding IsLegal
 told-paid tests rules events c account line legal out =
     let call : RootCall = Finish out.by c out.exit in
     let at = entered events out.newer call out.older out.stands in
-    let here = legal-look tests rules at.later (Joins call ∷ at.earlier)
+    let here = suffix-legal tests rules at.later (Joins call ∷ at.earlier)
     (subst (IsLegal tests rules) at.events_are legal) in
     let log : List RootCall = log_of at.earlier in
     let s = accepted_calls_show tests rules log call here.0.accepted in

@@ -1,3 +1,7 @@
+pub mod Basics
+pub mod CoinWords
+pub mod NodeWords
+pub mod WorldWords
 pub mod Unspent
 pub mod AtLook
 pub mod ActLook

@@ -1,35 +1,15 @@
 -- Small lists of calls, the newest first, on which the words and the calls are computed: each premise of the laws can
 -- be met, and the times are tight. Every call of the lists is accepted after those before it, where each opening and
 -- each signature passes.
-use Rattle.std.proofs.Common.{◌≡◌, ℕ, ◌+◌, ◌&&◌, Bool, true, false, List, [], ◌∷◌, Some, None, refl}
+use Rattle.safety_laws.proofs.Basics.{◌≡◌, ℕ, ◌+◌, ◌&&◌, Bool, true, false, List, [], ◌∷◌, Some, None, refl}
+use Rattle.safety_laws.proofs.CoinWords.{RawOpening, AtDeposit, Spend, RootCall, Fund, Tick, Deposit, Commit, StartDeposit, StartSpend, Between, Before, Respond, Finish, leaf_in, transfer_in, now, blocks, coins, block_at, coin_at, responses, exits, exit_at, exits_of, is_withdrawn, shown_tx, answer_to, is_accepted, pays, share_of, balance_of, funded, links_in, next_link, Kept, Word, Safe, Act, Leaving, Paid, Gone, Late, least, left_by, answer_shown, start_shown, due, calls_of, payment, word_of}
+use Rattle.safety_laws.proofs.WorldWords.{log_of, wallet_owner, accepted, bound_by, taken_back, not_taken, openings_of, seen, strings_of, has_clash, collides, is_forged, holds, Bare, IsLook, are_met}
 use Rattle.lms_sign.specs.Types.{u32_at}
-use Rattle.plasma_tx.specs.declared.opening.RawOpening.{RawOpening}
-use Rattle.plasma_tx.specs.declared.call.Shown.TheVariants.{Deposit as AtDeposit, Spend}
-use Rattle.plasma_tx.specs.declared.call.RootCall.{RootCall}
-use Rattle.plasma_tx.specs.declared.call.RootCall.TheVariants.{Fund, Tick, Deposit, Commit, StartDeposit, StartSpend, Between, Before, Respond, Finish}
-use Rattle.plasma_tx.specs.Openings.{leaf_in}
 use Rattle.plasma_tx.specs.Spelling.{body_text, signed_in, body_in, owner_text, owner_in}
-use Rattle.plasma_tx.specs.Transfer.{transfer_in}
-use Rattle.plasma_tx.specs.Views.{now, blocks, coins, block_at, coin_at, responses, exits, exit_at, exits_of, is_withdrawn}
-use Rattle.plasma_tx.specs.Shown.{shown_tx}
-use Rattle.plasma_tx.specs.Table.{answer_to, is_accepted}
-use Rattle.plasma_tx.specs.Money.{pays, takes, share_of, balance_of, funded}
-use Rattle.coin_history.specs.History.{links_in}
-use Rattle.watch_duty.specs.Duty.{next_link}
-use Rattle.world_rules.specs.Events.{log_of, wallet_owner, accepted, bound_by, taken_back, not_taken}
-use Rattle.world_rules.specs.Exhibits.{openings_of, seen, strings_of, has_clash, collides, is_forged}
-use Rattle.world_rules.specs.Safety.{holds}
-use Rattle.world_laws.specs.Legal.{Bare}
+use Rattle.plasma_tx.specs.Money.{takes}
 use Rattle.world_laws.proofs.Samples.{key, me, stranger, tag, rules, lax, deposited}
-use Rattle.coin_safety.specs.declared.kept.Kept.{Kept}
 use Rattle.coin_safety.specs.declared.word.Command.TheVariants.{Release}
-use Rattle.coin_safety.specs.declared.word.Word.{Word}
-use Rattle.coin_safety.specs.declared.word.Word.TheVariants.{Safe, Act, Leaving, Paid, Gone, Late}
-use Rattle.coin_safety.specs.Numbers.{least}
-use Rattle.coin_safety.specs.Advice.{left_by, answer_shown, start_shown, due, calls_of}
 use Rattle.coin_safety.specs.Commands.{command_of}
-use Rattle.coin_safety.specs.Words.{payment, word_of}
-use Rattle.safety_laws.specs.Look.{IsLook, are_met}
 
 -- each call was accepted after those before it
 unfoldable pub are_taken : List RootCall → Bool

@@ -1,30 +1,8 @@
 -- What stands where the calls that were due at a look were met.
-use Rattle.std.proofs.Common.{◌≡◌, ◌⊎◌, ℕ, ◌+◌, ◌<◌, ◌==◌, true, false, List, ◌++◌, Some, None, inl, inr, sym, ap, ◌∙◌, subst, arith, rules}
-use Rattle.std.specs.Prelude.{is_none}
-use Rattle.std.specs.List.{list_any}
-use Rattle.std.proofs.lemmas.Bool.{cases_Bool, ne_eqb, eq-eqb, true≢false}
-use Rattle.std.proofs.lemmas.Grind.{common_steps}
-use Rattle.plasma_tx.specs.declared.owner.Owner.{Owner}
-use Rattle.plasma_tx.specs.declared.call.RootCall.{RootCall}
-use Rattle.plasma_tx.specs.declared.call.RootCall.TheVariants.{After, Between, Before, Respond}
-use Rattle.plasma_tx.specs.declared.rules.TheConstants.{CHALLENGE_WINDOW, RESPONSE_WINDOW}
-use Rattle.plasma_tx.specs.Laws.{is_end, is_respond}
-use Rattle.plasma_tx.specs.Views.{now, Challenge, Exit, exits, exits_of, exit_view, challenge_at, block_of}
-use Rattle.plasma_tx.specs.Shown.{Rules, tests_by}
-use Rattle.watch_duty.specs.Duty.{tip_shown, due_for, due_of}
-use Rattle.watch_duty.proofs.Members.{Has}
-use Rattle.watch_duty.proofs.Dues.{IsDue, DueAfter, DueBetween, DueBefore, DueRespond, due_for-due}
-use Rattle.world_rules.specs.Laws.{IsDigest}
-use Rattle.world_rules.specs.Events.{Event, log_of}
-use Rattle.world_rules.specs.Safety.{is_mine}
-use Rattle.world_laws.specs.Legal.{IsLegal}
-use Rattle.world_laws.specs.Looked.{is_before, fulfils}
-use Rattle.world_laws.proofs.Lists.{passes-has, any-either}
-use Rattle.coin_safety.specs.declared.kept.Kept.{Kept}
-use Rattle.coin_safety.specs.Advice.{tip, due}
-use Rattle.coin_safety.specs.Laws.{AreAhead}
-use Rattle.safety_laws.specs.Look.{IsLook, begins_own, are_met}
-use Rattle.safety_laws.proofs.AtLook.{has-flat, standing-has, ahead-window, ahead-answer, at, look-shown, others-apart, others-seen, tip-seen, StandsTill}
+use Rattle.safety_laws.proofs.Basics.{◌≡◌, ◌⊎◌, ℕ, ◌+◌, ◌<◌, ◌==◌, true, false, List, ◌++◌, Some, None, inl, inr, sym, ap, ◌∙◌, subst, arith, rules, is_none, list_any, cases_Bool, ne_eqb, eq-eqb, true≢false, common_steps}
+use Rattle.safety_laws.proofs.CoinWords.{Owner, RootCall, After, Between, Before, Respond, CHALLENGE_WINDOW, RESPONSE_WINDOW, is_end, is_respond, now, Challenge, Exit, exits, exits_of, exit_view, challenge_at, block_of, Rules, tests_by, tip_shown, due_for, due_of, Has, IsDue, DueAfter, DueBetween, DueBefore, DueRespond, due_for-due, Kept, tip, due, AreAhead}
+use Rattle.safety_laws.proofs.WorldWords.{IsDigest, Event, log_of, is_mine, IsLegal, is_before, fulfils, passes-has, any-either, has-in-flat_map, IsLook, begins_own, are_met}
+use Rattle.safety_laws.proofs.AtLook.{standing-has, ahead-window, ahead-answer, at, look-shown, others-apart, others-seen, tip-seen, StandsTill}
 use Rattle.safety_laws.proofs.Since.{IsOld, WasOpenThen, IsShut, from-look, own-shut}
 
 module _ (dig : List ℕ → List ℕ) (digest : IsDigest dig) (rules : Rules) (within events : List Event)
@@ -73,8 +51,7 @@ module _ (dig : List ℕ → List ℕ) (digest : IsDigest dig) (rules : Rules) (
               ((λ i. list_any (is_before ((sym (look.coin_is ∙ sym c_is)) i) (sym o.block i) (sym at_tip i))
               (log_of within)) ∙ challenged))
         ]
-    due-met free apart call (DueRespond ch link at_tip has_ch still next early same) has =
-        apart (at_tip ∙ look.tip_is)
+    due-met free apart call (DueRespond ch link at_tip has_ch still next early same) has = apart (at_tip ∙ look.tip_is)
 
     -- another's exit that stood at the look is challenged at the tip
     old-challenged : is_mine Me y ≡ false → is_none (challenge_at e y.challenges) ≡ true → ⊥
@@ -91,7 +68,7 @@ module _ (dig : List ℕ → List ℕ) (digest : IsDigest dig) (rules : Rules) (
               (ap (λ b. is_none (challenge_at b o.y.challenges)) look.tip_is ∙ none))) [
                 | inl found ↦ due-met free apart found.0
                     (due_for-due (log_of events) account kept.links (exit_view o.y) found.0 found.1)
-                    (has-flat (due_for (log_of events) account kept.links) (exits_of (log_of events) kept.links.coin)
+                    (has-in-flat_map (due_for (log_of events) account kept.links) (exits_of (log_of events) kept.links.coin)
                     (exit_view o.y) found.0 (standing-has (log_of events) kept o.y o.there own) found.1)
                 | inr challenged ↦ true≢false (sym free ∙ o.challenged e challenged)
               ]

@@ -1,35 +1,8 @@
 -- The next look isn't too late.
-use Rattle.std.proofs.Common.{◌≡◌, ℕ, ◌+◌, ◌<◌, ◌≤◌, ◌==◌, ◌||◌, Bool, true, false, if◌then◌else◌, List, [], ◌∷◌, ◌++◌, map, Some, inl, inr, refl, sym, ap, ◌∙◌, subst, arith, find, rules}
-use Rattle.std.specs.Prelude.{is_none}
-use Rattle.std.specs.List.{list_any, Contains}
-use Rattle.std.proofs.lemmas.Bool.{cases_Bool, eq-eqb, eqb-true, not-true, true≢false}
-use Rattle.std.proofs.lemmas.Grind.{common_steps}
-use Rattle.plasma_tx.specs.declared.owner.Owner.{Owner}
-use Rattle.plasma_tx.specs.declared.call.RootCall.{RootCall}
-use Rattle.plasma_tx.specs.declared.views.ChallengeView.{ChallengeView}
-use Rattle.plasma_tx.specs.declared.views.ExitView.{ExitView}
-use Rattle.plasma_tx.specs.declared.rules.TheConstants.{CHALLENGE_WINDOW, RESPONSE_WINDOW, LAST_TIME}
-use Rattle.plasma_tx.specs.ChallengeLists.{is_challenged}
-use Rattle.plasma_tx.specs.Views.{now, Challenge, Exit, exits, challenge_at, challenge_view, exit_view}
-use Rattle.plasma_tx.specs.Shown.{tests_by}
+use Rattle.safety_laws.proofs.Basics.{◌≡◌, ℕ, ◌+◌, ◌<◌, ◌≤◌, ◌==◌, ◌||◌, Bool, true, false, if◌then◌else◌, List, [], ◌∷◌, ◌++◌, map, Some, inl, inr, refl, sym, ap, ◌∙◌, subst, arith, find, rules, is_none, list_any, Contains, cases_Bool, eq-eqb, eqb-true, not-true, true≢false, common_steps}
+use Rattle.safety_laws.proofs.CoinWords.{Owner, RootCall, ChallengeView, ExitView, CHALLENGE_WINDOW, RESPONSE_WINDOW, LAST_TIME, is_challenged, now, Challenge, Exit, exits, challenge_at, challenge_view, exit_view, tests_by, Has, any-map, contains-has, has-filter, has-map, has-flat_map, Kept, Late, after, standing, tip, answer_ends, ends_of, ends, Tells, words_tell}
+use Rattle.safety_laws.proofs.WorldWords.{log_of, wallet_owner, seen, collides, is_mine, IsLegal, some_same, one_leaf, legal-log, legal-table, Holding, holding, LegalNextLookIsInTime}
 use Rattle.plasma_tx.proofs.Bounds.{times_are_bounded}
-use Rattle.watch_duty.proofs.Members.{Has, any-map, contains-has, has-filter, has-map, has-flat_map}
-use Rattle.world_rules.specs.Events.{log_of, wallet_owner}
-use Rattle.world_rules.specs.Exhibits.{seen, collides}
-use Rattle.world_rules.specs.Safety.{is_mine}
-use Rattle.world_laws.specs.Legal.{IsLegal}
-use Rattle.world_laws.proofs.Lists.{some_same}
-use Rattle.world_laws.proofs.Clash.{one_leaf}
-use Rattle.world_laws.proofs.Shown.{legal-log, legal-table}
-use Rattle.world_laws.proofs.Bound.{Holding, holding}
-use Rattle.coin_safety.specs.declared.kept.Kept.{Kept}
-use Rattle.coin_safety.specs.declared.word.Word.TheVariants.{Late}
-use Rattle.coin_safety.specs.Numbers.{later as after}
-use Rattle.coin_safety.specs.Advice.{standing, tip}
-use Rattle.coin_safety.specs.Words.{answer_ends, ends_of}
-use Rattle.coin_safety.specs.Laws.{ends, Tells}
-use Rattle.coin_safety.proofs.Telling.{words_tell}
-use Rattle.safety_laws.specs.Safe.{LegalNextLookIsInTime}
 use Rattle.safety_laws.proofs.AtLook.{at, others-apart}
 use Rattle.safety_laws.proofs.ActLook.{seen-exit}
 use Rattle.safety_laws.proofs.Since.{owner-since}

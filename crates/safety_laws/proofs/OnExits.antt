@@ -1,13 +1,6 @@
 -- The exit that a call is on.
-use Rattle.std.proofs.Common.{◌≡◌, ℕ, ◌==◌, ◌&&◌, ◌||◌, Bool, true, false, List, [], ◌∷◌, refl, sym, ◌∙◌, arith}
-use Rattle.std.proofs.lemmas.Bool.{eqb-true, and_parts, true≢false, false≢true, false_from_ne_true}
-use Rattle.std.proofs.lemmas.Grind.{common_steps}
-use Rattle.plasma_tx.specs.declared.call.RootCall.{RootCall}
-use Rattle.plasma_tx.specs.declared.call.RootCall.TheVariants.{StartDeposit, StartSpend, After, Between, Before, Respond, Finish}
-use Rattle.plasma_tx.specs.declared.views.ChallengeView.{ChallengeView}
-use Rattle.plasma_tx.specs.ChallengeLists.{is_challenged}
-use Rattle.plasma_tx.specs.RuleLaws.{is_of_exit}
-use Rattle.coin_safety.specs.Advice.{is_answered}
+use Rattle.safety_laws.proofs.Basics.{◌≡◌, ℕ, ◌==◌, ◌&&◌, ◌||◌, Bool, true, false, List, [], ◌∷◌, refl, sym, ◌∙◌, arith, eqb-true, and_parts, true≢false, false≢true, false_from_ne_true, common_steps}
+use Rattle.safety_laws.proofs.CoinWords.{RootCall, StartDeposit, StartSpend, After, Between, Before, Respond, Finish, ChallengeView, is_challenged, is_of_exit, is_answered}
 use Rattle.safety_laws.proofs.StillTaken.{is_move, IsBy, is_finish, Apart}
 
 -- what is answered is challenged

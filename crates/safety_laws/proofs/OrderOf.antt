@@ -1,27 +1,6 @@
 -- Each of the calls that are advised leaves the later ones what they are.
-use Rattle.std.proofs.Common.{◌≡◌, ℕ, ◌+◌, ◌<◌, ◌==◌, ◌&&◌, ◌||◌, not, Bool, true, false, if◌then◌else◌, List, [], ◌∷◌, ◌++◌, map, filter, Option, Some, None, inl, inr, refl, sym, ap, ◌∙◌, subst, arith}
-use Rattle.std.specs.Prelude.{is_some, nat_lt, unwrap_or}
-use Rattle.std.specs.Option.{option_map, option_map_or, option_or}
-use Rattle.std.specs.List.{flat_map}
-use Rattle.std.proofs.lemmas.Bool.{cases_eq, ne_eqb, eqb-true, eq-eqb, leb-true, and_parts, and_from, not_from_false, true≢false}
-use Rattle.std.proofs.lemmas.Grind.{common_steps}
-use Rattle.plasma_tx.specs.declared.opening.RawOpening.{RawOpening}
-use Rattle.plasma_tx.specs.declared.links.Link.{Link}
-use Rattle.plasma_tx.specs.declared.call.RootCall.{RootCall}
-use Rattle.plasma_tx.specs.declared.call.RootCall.TheVariants.{After, Between, Before, Respond, Finish}
-use Rattle.plasma_tx.specs.declared.views.ChallengeView.{ChallengeView}
-use Rattle.plasma_tx.specs.declared.views.ExitView.{ExitView}
-use Rattle.plasma_tx.specs.declared.rules.TheConstants.{CHALLENGE_WINDOW, EXIT_PERIOD}
-use Rattle.plasma_tx.specs.ChallengeLists.{is_challenged}
-use Rattle.plasma_tx.specs.Links.{last_spend, tip_of}
-use Rattle.plasma_tx.specs.Table.{is_over}
-use Rattle.plasma_tx.specs.Views.{now, Challenge, Exit, is_exit, exits, exit_at, challenge_view, exit_view, exits_of}
-use Rattle.plasma_tx.proofs.RuleNames.{exits-distinct, is_at, challenged-once}
-use Rattle.watch_duty.specs.Duty.{link_after, tip_shown, within, old_owner, second_spend, planted_parent, answer, answers, due_for, due_of}
-use Rattle.watch_duty.proofs.Members.{Has, has-cases, has-filter, has-map, has-flat_map, only-found}
-use Rattle.watch_duty.proofs.Dues.{IsDue, due_for-due}
-use Rattle.coin_safety.specs.declared.kept.Kept.{Kept}
-use Rattle.coin_safety.specs.Advice.{standing, tip, before_by, again_for, shown_again, start_of, own_start, exit_in, instead, is_to_finish, has_challenged, is_own, finishes, due, timed, calls_of}
+use Rattle.safety_laws.proofs.Basics.{◌≡◌, ℕ, ◌+◌, ◌<◌, ◌==◌, ◌&&◌, ◌||◌, not, Bool, true, false, if◌then◌else◌, List, [], ◌∷◌, ◌++◌, map, filter, Option, Some, None, inl, inr, refl, sym, ap, ◌∙◌, subst, arith, is_some, nat_lt, unwrap_or, option_map, option_map_or, option_or, flat_map, cases_eq, ne_eqb, eqb-true, eq-eqb, leb-true, and_parts, and_from, not_from_false, true≢false, common_steps}
+use Rattle.safety_laws.proofs.CoinWords.{RawOpening, Link, RootCall, After, Between, Before, Respond, Finish, ChallengeView, ExitView, CHALLENGE_WINDOW, EXIT_PERIOD, is_challenged, last_spend, tip_of, is_over, now, Challenge, Exit, is_exit, exits, exit_at, challenge_view, exit_view, exits_of, exits-distinct, is_at, challenged-once, link_after, tip_shown, within, old_owner, second_spend, planted_parent, answer, answers, due_for, due_of, Has, has-cases, has-filter, has-map, has-flat_map, only-found, IsDue, due_for-due, Kept, standing, tip, before_by, again_for, shown_again, start_of, own_start, exit_in, instead, is_to_finish, has_challenged, is_own, finishes, due, timed, calls_of}
 use Rattle.coin_safety.proofs.Again.{IsAgain, again_for-again, again-in}
 use Rattle.coin_safety.proofs.Starting.{own-in}
 use Rattle.safety_laws.proofs.StillTaken.{is_answer, Apart}
@@ -45,8 +24,7 @@ module _ (log : List RootCall) (account : ℕ) (kept : Kept) where
 
   entered-moves : (v : ExitView) (call : RootCall) → Has (due_for log account kept.links v) call
       → MovesWithin account v.block (instead log C call)
-  entered-moves v call h =
-      instead-moves v.block call (due-moves v call (due_for-due log account kept.links v call h))
+  entered-moves v call h = instead-moves v.block call (due-moves v call (due_for-due log account kept.links v call h))
 
   -- ---- the exits
 
@@ -222,8 +200,7 @@ module _ (log : List RootCall) (account : ℕ) (kept : Kept) where
       × (is_over log v.start EXIT_PERIOD ≡ true → is_answer (instead log C call) ≡ true)
   timed-in call h =
       elim (has-cases (due log account kept) (shown_again log account kept) call h) [
-        | inl own ↦
-            grind (arith, common_steps, due-in, due_for-due, entered-moves, ended-answer)
+        | inl own ↦ grind (arith, common_steps, due-in, due_for-due, entered-moves, ended-answer)
         | inr again ↦
             let r = again-in log account kept call again in (
               r.0,
@@ -336,8 +313,7 @@ module _ (log : List RootCall) (account : ℕ) (kept : Kept) where
         finish-pairs
         (λ a b ha hb. elim (has-cases calls (own_start log account kept) a ha) [
           | inl first ↦ across a b first hb
-          | inr start ↦
-              grind (arith, common_steps, own-is, finish-in, of-other)
+          | inr start ↦ grind (arith, common_steps, own-is, finish-in, of-other)
         ])
 
     pub calls-move : (call : RootCall) → Has (calls_of log account kept) call
@@ -347,8 +323,7 @@ module _ (log : List RootCall) (account : ℕ) (kept : Kept) where
         (finishes log account kept) call h) [
           | inl front ↦ elim (has-cases (map (instead log C) (timed log account kept)) (own_start log account kept) call
               front) [
-                | inl first ↦
-                    grind (arith, common_steps, has-map, first, timed-in)
+                | inl first ↦ grind (arith, common_steps, has-map, first, timed-in)
                 | inr start ↦ (tip kept, (own-is at_link call start).moves)
               ]
           | inr last ↦

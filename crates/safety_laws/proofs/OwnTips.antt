@@ -1,24 +1,9 @@
 -- A wallet's own exit of a coin that it holds is at the tip.
-use Rattle.std.proofs.Common.{◌≡◌, ℕ, ◌==◌, true, false, if◌then◌else◌, List, [], ◌∷◌, Some, inl, inr, refl, sym, ◌∙◌, arith, rules}
-use Rattle.std.specs.List.{list_any}
-use Rattle.std.proofs.lemmas.Bool.{or_cases, or_left, or_right}
-use Rattle.std.proofs.lemmas.Grind.{common_steps}
-use Rattle.plasma_tx.specs.declared.owner.Owner.{Owner}
-use Rattle.plasma_tx.specs.declared.call.RootCall.{RootCall}
-use Rattle.plasma_tx.specs.Views.{coin_at, Exit, exits}
-use Rattle.plasma_tx.specs.Shown.{Tests, Rules}
-use Rattle.watch_duty.proofs.Members.{Has, all-has, contains-has}
-use Rattle.node_replies.specs.Orders.{exit_block}
-use Rattle.world_rules.specs.Events.{Event, Declares, Joins, log_of, coin_of_call, wallet_owner, accepted, is_bundle}
-use Rattle.world_rules.specs.Exhibits.{seen, is_forged}
-use Rattle.world_rules.specs.Safety.{was_deposited, is_mine}
-use Rattle.world_laws.specs.Legal.{left_by, is_left, is_tip, IsLegal}
-use Rattle.world_laws.proofs.Lists.{some_same}
-use Rattle.world_laws.proofs.Clash.{HasOneLeaf}
-use Rattle.world_laws.proofs.Bound.{SignsBy, Holding}
-use Rattle.world_laws.proofs.Held.{held_top}
-use Rattle.world_laws.proofs.Offers.{left_start}
-use Rattle.world_laws.proofs.OwnExits.{IsOwnAt, IfOwn, came-from, undeclared-none, left-is, left-stands}
+use Rattle.safety_laws.proofs.Basics.{◌≡◌, ℕ, ◌==◌, true, false, if◌then◌else◌, List, [], ◌∷◌, Some, inl, inr, refl, sym, ◌∙◌, arith, rules, list_any, or_cases, common_steps}
+use Rattle.safety_laws.proofs.CoinWords.{Owner, RootCall, coin_at, Exit, exits, Tests, Rules, Has, all-has, contains-has}
+use Rattle.safety_laws.proofs.NodeWords.{exit_block}
+use Rattle.safety_laws.proofs.WorldWords.{Event, Declares, Joins, log_of, coin_of_call, wallet_owner, accepted, is_bundle, seen, is_forged, was_deposited, is_mine, left_by, is_left, is_tip, IsLegal, some_same, HasOneLeaf, SignsBy, Holding, held_top, IsOwnAt, IfOwn, came-from, undeclared-none, left-is, left-stands, left-has}
+use Rattle.world_laws.proofs.Offers.{left_start, tip-held}
 
 -- a start that the wallet left
 record WasLeft (events : List Event) (w c e : ℕ) : Type 0 where
@@ -26,11 +11,6 @@ record WasLeft (events : List Event) (w c e : ℕ) : Type 0 where
   has : Has (left_by events w) call
   coin_is : coin_of_call call ≡ c
   block_is : exit_block call ≡ e
-
-left-has : (event : Event) (events : List Event) (w : ℕ) (call : RootCall) → Has (left_by events w) call
-    → Has (left_by (event ∷ events) w) call
-unfolding left_by
-left-has event events w call h = grind (arith, common_steps)
 
 left-on : (event : Event) (events : List Event) (w c e : ℕ) → WasLeft events w c e → WasLeft (event ∷ events) w c e
 left-on event events w c e l = grind (arith, common_steps, left-has)
@@ -58,9 +38,6 @@ module _ (tests : Tests) (rules : Rules) (w c e : ℕ) where
   was-left (event ∷ events) legal me me_is x there own =
       left-on event events w c e (was-left events legal.1 me me_is x there own)
 
-source-tip : (events : List Event) (w c e : ℕ) (h : Holding events w c e) → is_tip events w h.me c e ≡ true
-source-tip events w c e h = grind (arith, common_steps, or_left, or_right)
-
 -- so it is at the tip at which the wallet holds the coin
 pub own-at-tip : (tests : Tests) (rules : Rules) → SignsBy tests → (events : List Event) (w c e : ℕ)
     → IsLegal tests rules events → HasOneLeaf tests (log_of events) c (seen events c)
@@ -85,5 +62,5 @@ own-at-tip tests rules signs events w c e legal one unforged h x there c_is mine
     } in
     let low = held_top tests rules signs events w c e legal one h unforged block tip in
     let high = held_top tests rules signs events w c block legal one other unforged e
-    (source-tip events w c e h) in
+    (tip-held events w c e h) in
     omega (arith, low, high)

@@ -1,9 +1,6 @@
 -- What holds of each thing of a list and each later one.
-use Rattle.std.proofs.Common.{◌≡◌, ℕ, ◌≤◌, Bool, true, List, [], ◌∷◌, ◌++◌, map, filter, inl, inr, refl, sym, ap, ◌∙◌, subst, arith}
-use Rattle.std.specs.List.{flat_map}
-use Rattle.std.proofs.lemmas.Grind.{common_steps}
-use Rattle.plasma_tx.proofs.RuleNames.{one_if, count}
-use Rattle.watch_duty.proofs.Members.{Has, has-cases, has-filter, has-map, has-flat_map}
+use Rattle.safety_laws.proofs.Basics.{◌≡◌, ℕ, ◌≤◌, Bool, true, List, [], ◌∷◌, ◌++◌, map, filter, inl, inr, refl, sym, ap, ◌∙◌, subst, arith, flat_map, common_steps}
+use Rattle.safety_laws.proofs.CoinWords.{one_if, count, Has, has-cases, has-filter, has-map, has-flat_map}
 
 abbrev pub Pairs : {X : Type 0} → (X → X → Type 0) → List X → Type 0
 Pairs R [] = Unit {0}
@@ -51,8 +48,7 @@ module _ {X : Type 0} where
   pairs-same block [] all x y h k same = absurd h
   pairs-same block (z ∷ zs) all x y (inl here) (inl there) same = sym here ∙ there
   pairs-same block (z ∷ zs) all x y (inl here) (inr k) same = absurd (all.0 y k (ap block here ∙ same))
-  pairs-same block (z ∷ zs) all x y (inr h) (inl there) same =
-      absurd (all.0 x h (ap block there ∙ sym same))
+  pairs-same block (z ∷ zs) all x y (inr h) (inl there) same = absurd (all.0 x h (ap block there ∙ sym same))
   pairs-same block (z ∷ zs) all x y (inr h) (inr k) same = pairs-same block zs all.1 x y h k same
 
 module _ {X Y : Type 0} (Q : X → X → Type 0) (R : Y → Y → Type 0) where

@@ -1,12 +1,8 @@
 -- The laws at each line of a run.
-use Rattle.std.proofs.Common.{[], ◌∷◌}
-use Rattle.plasma_tx.specs.Shown.{tests_by, rules_of}
-use Rattle.money_laws.proofs.Tips.{legal-to}
+use Rattle.safety_laws.proofs.Basics.{[], ◌∷◌}
+use Rattle.safety_laws.proofs.CoinWords.{tests_by, rules_of}
+use Rattle.safety_laws.proofs.WorldWords.{legal-to, suffix-legal, events_after, LegalLookedAtCoinsAreSafe, LookedAtCoinsAreSafe, GoneMeansGone, PaidMeansPaid, ActsOfRunsAreAccepted}
 use Rattle.money_laws.proofs.Timely.{timely_coins_are_safe}
-use Rattle.safety_laws.specs.Safe.{events_after, LegalLookedAtCoinsAreSafe, LookedAtCoinsAreSafe}
-use Rattle.safety_laws.specs.Gone.{GoneMeansGone, PaidMeansPaid}
-use Rattle.safety_laws.specs.Calls.{ActsOfRunsAreAccepted}
-use Rattle.safety_laws.proofs.Since.{legal-look}
 use Rattle.safety_laws.proofs.SafeWords.{looks_are_enough}
 use Rattle.safety_laws.proofs.GoneWords.{gone_means_gone, paid_means_paid}
 use Rattle.safety_laws.proofs.Acts.{acts_are_accepted}
@@ -15,7 +11,7 @@ pub looked_at_are_safe : LegalLookedAtCoinsAreSafe
 looked_at_are_safe dig rules event looks first w c e digest legal are so_far =
     timely_coins_are_safe dig rules event (events_after looks first) w c e digest legal
     (looks_are_enough dig rules looks first w c e digest
-    (legal-look (tests_by dig) rules (event ∷ []) (events_after looks first) legal) are so_far)
+    (suffix-legal (tests_by dig) rules (event ∷ []) (events_after looks first) legal) are so_far)
 
 pub run_looked_at_are_safe : LookedAtCoinsAreSafe
 run_looked_at_are_safe dig lines run world rest event looks first w c e is split =

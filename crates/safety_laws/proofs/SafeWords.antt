@@ -1,33 +1,11 @@
 -- What the words Safe, Leaving and Act say of the time until the next look.
-use Rattle.std.proofs.Common.{◌≡◌, ℕ, ◌≤◌, ◌==◌, Bool, true, false, List, [], ◌∷◌, ◌++◌, map, Some, inl, inr, refl, sym, ap, ◌∙◌, subst, arith, rules}
-use Rattle.std.specs.List.{list_any, Contains}
-use Rattle.std.proofs.Math.Nat.{le_refl}
-use Rattle.std.proofs.lemmas.Bool.{leb-true, or_parts, or_from, false≢true}
-use Rattle.std.proofs.lemmas.Grind.{common_steps}
-use Rattle.plasma_tx.specs.declared.owner.Owner.{Owner}
-use Rattle.plasma_tx.specs.declared.call.RootCall.{RootCall}
-use Rattle.plasma_tx.specs.Views.{now, exit_view}
-use Rattle.plasma_tx.specs.Shown.{Rules, tests_by}
-use Rattle.watch_duty.proofs.Members.{has-contains, contains-has, has-left}
-use Rattle.world_rules.specs.Laws.{IsDigest}
-use Rattle.world_rules.specs.Events.{Event, log_of, wallet_owner}
-use Rattle.world_laws.specs.Legal.{IsLegal}
-use Rattle.world_laws.proofs.Lists.{append-assoc}
-use Rattle.world_laws.proofs.DueCalls.{has-mapped}
-use Rattle.money_laws.specs.MoneyLaws.{is_in_time}
-use Rattle.coin_safety.specs.declared.kept.Kept.{Kept}
-use Rattle.coin_safety.specs.declared.word.Word.{Word}
-use Rattle.coin_safety.specs.declared.word.Word.TheVariants.{Safe, Act, Leaving}
-use Rattle.coin_safety.specs.Advice.{standing, due, shown_again, timed}
-use Rattle.coin_safety.specs.Words.{end_of_call, word_of}
-use Rattle.coin_safety.specs.Laws.{AreAhead, IsFirst, NothingIsDue, Tells}
-use Rattle.coin_safety.proofs.Telling.{words_tell}
-use Rattle.safety_laws.specs.Look.{IsLook, begins_own, is_calm, is_shut, AreShort, IsActedOn, Covers}
-use Rattle.safety_laws.specs.Safe.{LegalSafeMeansSafe, LegalLeavingMeansSafe, LegalActLeavesTime, LegalActMeansAct, events_after, AreLooks, LegalLooksAreEnough}
+use Rattle.safety_laws.proofs.Basics.{◌≡◌, ℕ, ◌≤◌, ◌==◌, Bool, true, false, List, [], ◌∷◌, ◌++◌, map, Some, inl, inr, refl, sym, ap, ◌∙◌, subst, arith, rules, list_any, Contains, le_refl, leb-true, or_parts, or_from, false≢true, common_steps}
+use Rattle.safety_laws.proofs.CoinWords.{Owner, RootCall, now, exit_view, Rules, tests_by, has-contains, contains-has, has-left, Kept, Word, Safe, Act, Leaving, standing, due, shown_again, timed, end_of_call, word_of, AreAhead, IsFirst, NothingIsDue, Tells, words_tell}
+use Rattle.safety_laws.proofs.WorldWords.{IsDigest, Event, log_of, wallet_owner, IsLegal, append-assoc, has-mapped, is_in_time, IsLook, begins_own, is_calm, is_shut, AreShort, IsActedOn, Covers, LegalSafeMeansSafe, LegalLeavingMeansSafe, LegalActLeavesTime, LegalActMeansAct, events_after, AreLooks, LegalLooksAreEnough, suffix-legal}
 use Rattle.safety_laws.proofs.AtLook.{at, standing-has, StandsTill, calm-stands}
 use Rattle.safety_laws.proofs.ActLook.{stands-there, act-stands}
 use Rattle.safety_laws.proofs.MetCalls.{met-stands}
-use Rattle.safety_laws.proofs.Since.{IsShut, legal-look, clock-since, owner-since, own-since}
+use Rattle.safety_laws.proofs.Since.{IsShut, clock-since, owner-since, own-since}
 use Rattle.safety_laws.proofs.Timely.{GoesTill, stays-in-time}
 
 -- where nothing is due, nothing is, and no window ended
@@ -74,7 +52,7 @@ module _ (dig : List ℕ → List ℕ) (digest : IsDigest dig) (rules : Rules) (
     (n w c e account clock : ℕ) (kept : Kept) (legal : IsLegal (tests_by dig) rules (later ++ events))
     (look : IsLook dig rules events n w c e kept) where
   before : IsLegal (tests_by dig) rules events
-  before = legal-look (tests_by dig) rules later events legal
+  before = suffix-legal (tests_by dig) rules later events legal
 
   abbrev Me : Owner
   Me = (at dig digest rules events n w c e account kept before look).hold.me
@@ -114,7 +92,7 @@ module _ (dig : List ℕ → List ℕ) (digest : IsDigest dig) (rules : Rules) (
     whole = subst (IsLegal (tests_by dig) rules) split legal
 
     mid : IsLegal (tests_by dig) rules (r.within ++ events)
-    mid = legal-look (tests_by dig) rules r.after (r.within ++ events) whole
+    mid = suffix-legal (tests_by dig) rules r.after (r.within ++ events) whole
 
     acted : Tells (log_of events) account clock kept (Act r.by r.money)
     acted = told (log_of events) account clock kept (Act r.by r.money) r.word_is
@@ -238,4 +216,4 @@ looks_are_enough dig rules (look ∷ looks) first w c e digest legal are so_far 
     let events : List Event = events_after looks first in
     look-keeps dig digest rules look.later events look.node w c e look.account look.clock look.kept legal are.0 are.1
     (looks_are_enough dig rules looks first w c e digest
-    (legal-look (tests_by dig) rules look.later events legal) are.2 so_far)
+    (suffix-legal (tests_by dig) rules look.later events legal) are.2 so_far)

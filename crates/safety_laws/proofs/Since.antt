@@ -1,31 +1,9 @@
 -- Where an exit that stands at a later event comes from: it stood at the look, or began since.
-use Rattle.std.proofs.Common.{◌≡◌, ◌⊎◌, ℕ, ◌+◌, ◌≤◌, ◌==◌, true, false, List, [], ◌∷◌, ◌++◌, Some, None, inl, inr, sym, ap, ◌∙◌, arith, rules}
-use Rattle.std.specs.Prelude.{is_none}
-use Rattle.std.specs.List.{list_any}
-use Rattle.std.proofs.Math.Nat.{le_refl}
-use Rattle.std.proofs.lemmas.Bool.{eq-eqb, eqb-true, and_parts, and_from, or_from, or_parts, or_cases, true≢false, false≢true}
-use Rattle.std.proofs.lemmas.Grind.{common_steps}
-use Rattle.plasma_tx.specs.declared.owner.Owner.{Owner}
-use Rattle.plasma_tx.specs.declared.call.RootCall.{RootCall}
-use Rattle.plasma_tx.specs.declared.call.RootCall.TheVariants.{StartDeposit, StartSpend}
-use Rattle.plasma_tx.specs.declared.rules.TheConstants.{CHALLENGE_WINDOW}
-use Rattle.plasma_tx.specs.Laws.{is_start, is_end, is_respond}
-use Rattle.plasma_tx.specs.Views.{now, Challenge, Exit, exits, exit_at, challenge_at}
-use Rattle.plasma_tx.specs.Shown.{Tests, Rules}
-use Rattle.plasma_tx.specs.Table.{answer_to, is_accepted}
-use Rattle.plasma_tx.proofs.Accepted.{accepted_calls_show}
-use Rattle.watch_duty.proofs.Members.{Has, all-has}
-use Rattle.node_replies.specs.Orders.{exit_block}
-use Rattle.world_rules.specs.Events.{Event, Joins, log_of, coin_of_call, wallet_owner}
-use Rattle.world_rules.specs.Exhibits.{seen}
-use Rattle.world_laws.specs.Legal.{IsLegal}
-use Rattle.world_laws.specs.Looked.{is_before}
-use Rattle.world_laws.proofs.Lists.{none_some}
-use Rattle.world_laws.proofs.Shown.{IsShownChallenge, all_shown}
-use Rattle.world_laws.proofs.Bound.{owner-stays}
+use Rattle.safety_laws.proofs.Basics.{◌≡◌, ◌⊎◌, ℕ, ◌+◌, ◌≤◌, ◌==◌, true, false, List, [], ◌∷◌, ◌++◌, Some, None, inl, inr, sym, ap, ◌∙◌, arith, rules, is_none, list_any, le_refl, eq-eqb, eqb-true, and_parts, and_from, or_from, or_parts, or_cases, true≢false, false≢true, common_steps}
+use Rattle.safety_laws.proofs.CoinWords.{Owner, RootCall, StartDeposit, StartSpend, CHALLENGE_WINDOW, is_start, is_end, is_respond, now, Challenge, Exit, exits, exit_at, challenge_at, Tests, Rules, answer_to, is_accepted, accepted_calls_show, Has, all-has}
+use Rattle.safety_laws.proofs.NodeWords.{exit_block}
+use Rattle.safety_laws.proofs.WorldWords.{Event, Joins, log_of, coin_of_call, wallet_owner, seen, IsLegal, is_before, none_some, IsShownChallenge, all_shown, owner-stays, IsOwnAt, IfOwn, came-from, begins_own}
 use Rattle.world_laws.proofs.Earlier.{StoodBefore, IsNew, stood-before, clock-before}
-use Rattle.world_laws.proofs.OwnExits.{IsOwnAt, IfOwn, came-from}
-use Rattle.safety_laws.specs.Look.{begins_own}
 use Rattle.safety_laws.proofs.ActLook.{stands-there}
 
 -- the challenge was open at the look, and no call since answered it
@@ -65,13 +43,6 @@ pub record IsBegunSince (events : List Event) (x : Exit) : Type 0 where
 abbrev pub IsShut : List Event → Owner → ℕ → ℕ → Type 0
 IsShut events me c e = (y : Exit) → Has (exits (log_of events)) y → IsOwnAt me c e y
     → y.start + CHALLENGE_WINDOW ≤ now (log_of events)
-
--- the events up to the look are legal
-pub legal-look : (tests : Tests) (rules : Rules) (later events : List Event) → IsLegal tests rules (later ++ events)
-    → IsLegal tests rules events
-unfolding IsLegal
-legal-look tests rules [] events legal = legal
-legal-look tests rules (event ∷ later) events legal = legal-look tests rules later events legal.1
 
 module _ (tests : Tests) (rules : Rules) (events : List Event) where
   -- the clock doesn't go back

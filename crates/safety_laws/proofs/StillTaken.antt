@@ -1,29 +1,10 @@
 -- A call on an exit leaves calls on other exits what they are, but for the money.
-use Rattle.std.proofs.Common.{◌≡◌, ◌⊎◌, ℕ, ◌==◌, ◌&&◌, not, Bool, true, false, if◌then◌else◌, List, [], ◌∷◌, map, Option, Some, None, option_map, inl, inr, refl, sym, ap, ◌∙◌, arith, rules}
-use Rattle.std.specs.Prelude.{is_some, nat_lt}
-use Rattle.std.specs.Option.{option_and_then}
-use Rattle.std.proofs.lemmas.Bool.{eqb-true, ltb-false, not-true, true≢false, false≢true}
-use Rattle.std.proofs.lemmas.Grind.{common_steps}
-use Rattle.plasma_tx.specs.declared.owner.Owner.{Owner}
-use Rattle.plasma_tx.specs.declared.opening.RawOpening.{RawOpening}
-use Rattle.plasma_tx.specs.declared.signed_tx.SignedTx.{SignedTx}
-use Rattle.plasma_tx.specs.declared.call.Shown.{Shown}
-use Rattle.plasma_tx.specs.declared.call.Shown.TheVariants.{Deposit as AtDeposit, Spend}
-use Rattle.plasma_tx.specs.declared.call.RootCall.{RootCall}
-use Rattle.plasma_tx.specs.declared.call.RootCall.TheVariants.{StartDeposit, StartSpend, After, Between, Before, Respond, Finish}
+use Rattle.safety_laws.proofs.Basics.{◌≡◌, ◌⊎◌, ℕ, ◌==◌, ◌&&◌, not, Bool, true, false, if◌then◌else◌, List, [], ◌∷◌, map, Option, Some, None, option_map, inl, inr, refl, sym, ap, ◌∙◌, arith, rules, is_some, nat_lt, option_and_then, eqb-true, ltb-false, not-true, true≢false, false≢true, common_steps}
+use Rattle.safety_laws.proofs.CoinWords.{Owner, RawOpening, SignedTx, Shown, AtDeposit, Spend, RootCall, StartDeposit, StartSpend, After, Between, Before, Respond, Finish, leaf_in, transfer_in, now, block_at, coin_at, Challenge, Exit, exits, exit_at, challenge_at, block_of, is_withdrawn, with_answer, with_answer_at, Tests, Rules, root_at, shown_tx, shown_owner, answer_to, is_accepted, is_before_parent, is_committed_after, is_parent_of, is_of_exit, ShowsTx, CancelsAfter, CancelsBetween, Responds, Finishes, accepted_calls_show, is_poor}
 use Rattle.plasma_tx.specs.declared.views.CoinView.{CoinView}
-use Rattle.plasma_tx.specs.Openings.{leaf_in}
-use Rattle.plasma_tx.specs.Transfer.{transfer_in}
-use Rattle.plasma_tx.specs.Views.{now, block_at, coin_at, Challenge, Exit, exits, exit_at, challenge_at, block_of, is_withdrawn, with_answer, with_answer_at}
-use Rattle.plasma_tx.specs.Shown.{Tests, Rules, root_at, shown_tx, shown_owner}
-use Rattle.plasma_tx.specs.Table.{answer_to, is_accepted, is_before_parent, is_committed_after, is_parent_of}
-use Rattle.plasma_tx.specs.RuleLaws.{is_of_exit}
-use Rattle.plasma_tx.specs.Accepted.{ShowsTx, CancelsAfter, CancelsBetween, Responds, Finishes}
-use Rattle.plasma_tx.proofs.Accepted.{accepted_calls_show}
 use Rattle.plasma_tx.proofs.Acceptance.{shown_calls_are_accepted}
 use Rattle.plasma_tx.proofs.Names.{find-changed}
 use Rattle.plasma_tx.proofs.RuleLeaves.{others_leave_exits}
-use Rattle.coin_safety.specs.Laws.{is_poor}
 use Rattle.money_laws.proofs.Reserves.{Could}
 
 -- a start of a deposit's exit is accepted, but for the money
@@ -138,8 +119,7 @@ module _ (tests : Tests) (rules : Rules) where
         owner = s.owner;
         none_stands = s.none_stands;
       }
-  could-from log (After account c f spend) move is =
-      accepted_calls_show tests rules log (After account c f spend) is
+  could-from log (After account c f spend) move is = accepted_calls_show tests rules log (After account c f spend) is
   could-from log (Between account c f spend) move is =
       accepted_calls_show tests rules log (Between account c f spend) is
   could-from log (Before account c f shown) move is =
@@ -320,8 +300,7 @@ module _ (tests : Tests) (rules : Rules) (log : List RootCall) where
   still-could new (Respond account c f n spend) move (inl apart) could =
       respond-still tests rules log (new ∷ log) (moved-same log new move) c f n spend could could.exit
       (others_leave_exits log new c f apart ∙ could.stands) could.there refl
-  still-could new (Respond account c f n spend) move (inr other) could =
-      respond-after new c f n spend move other could
+  still-could new (Respond account c f n spend) move (inr other) could = respond-after new c f n spend move other could
   still-could new (Finish account c f) move (inl apart) could =
       finish-still tests rules log (new ∷ log) (moved-same log new move) c f could could.exit
       (others_leave_exits log new c f apart ∙ could.stands) refl

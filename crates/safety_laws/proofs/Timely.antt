@@ -1,21 +1,7 @@
 -- While what a look says goes, no exit of the coin comes too late.
-use Rattle.std.proofs.Common.{◌≡◌, ◌⊎◌, ℕ, ◌+◌, ◌<◌, ◌≤◌, ◌==◌, ◌&&◌, not, true, false, List, [], ◌∷◌, ◌++◌, Some, inl, inr, sym, ap, ◌∙◌, arith, rules}
-use Rattle.std.specs.Prelude.{is_none}
-use Rattle.std.specs.Option.{option_map_or}
-use Rattle.std.specs.List.{list_any}
-use Rattle.std.proofs.lemmas.Bool.{cases_Bool, eqb-true, leb-true, and_parts, and_from, or_parts, not-true, not_from_false, true≢false, false_from_ne_true}
-use Rattle.std.proofs.lemmas.Grind.{common_steps}
-use Rattle.plasma_tx.specs.declared.owner.Owner.{Owner}
-use Rattle.plasma_tx.specs.declared.rules.TheConstants.{CHALLENGE_WINDOW, RESPONSE_WINDOW}
-use Rattle.plasma_tx.specs.Views.{now, Challenge, Exit, exits, challenge_at}
-use Rattle.plasma_tx.specs.Shown.{Tests, Rules}
-use Rattle.watch_duty.proofs.Members.{Has}
-use Rattle.world_rules.specs.Events.{Event, log_of, wallet_owner}
-use Rattle.world_rules.specs.Safety.{holds, is_mine}
-use Rattle.world_laws.specs.Legal.{IsLegal}
-use Rattle.world_laws.proofs.Lists.{any-some}
-use Rattle.money_laws.specs.MoneyLaws.{is_late, goes_late, is_in_time}
-use Rattle.safety_laws.specs.Look.{begins_own}
+use Rattle.safety_laws.proofs.Basics.{◌≡◌, ◌⊎◌, ℕ, ◌+◌, ◌<◌, ◌≤◌, ◌==◌, ◌&&◌, not, true, false, List, [], ◌∷◌, ◌++◌, Some, inl, inr, sym, ap, ◌∙◌, arith, rules, is_none, option_map_or, list_any, cases_Bool, eqb-true, leb-true, and_parts, and_from, or_parts, not-true, not_from_false, true≢false, false_from_ne_true, common_steps}
+use Rattle.safety_laws.proofs.CoinWords.{Owner, CHALLENGE_WINDOW, RESPONSE_WINDOW, now, Challenge, Exit, exits, challenge_at, Tests, Rules, Has}
+use Rattle.safety_laws.proofs.WorldWords.{Event, log_of, wallet_owner, holds, is_mine, IsLegal, any-some, is_late, goes_late, is_in_time, begins_own}
 use Rattle.safety_laws.proofs.AtLook.{StandsTill}
 use Rattle.safety_laws.proofs.Since.{IsShut, clock-since, from-look, owner-since, own-shut}
 

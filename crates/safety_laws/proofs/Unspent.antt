@@ -1,43 +1,15 @@
 -- No standing exit spends the tip of a coin that a wallet holds.
-use Rattle.std.proofs.Common.{◌≡◌, ◌≢◌, ℕ, ◌<◌, true, false, List, [], ◌∷◌, ◌++◌, inl, inr, refl, sym, ap, ◌∙◌, subst, arith, rules}
-use Rattle.std.specs.Prelude.{is_some, nat_lt}
-use Rattle.std.specs.List.{AllByRecursion}
-use Rattle.std.proofs.lemmas.Bool.{eqb-true, ltb-true, and_parts}
-use Rattle.std.proofs.lemmas.Grind.{common_steps}
-use Rattle.plasma_tx.specs.declared.opening.RawOpening.{RawOpening}
-use Rattle.plasma_tx.specs.declared.call.Shown.{Shown}
-use Rattle.plasma_tx.specs.declared.call.RootCall.{RootCall}
-use Rattle.plasma_tx.specs.declared.call.RootCall.TheVariants.{StartDeposit, StartSpend, Before, Respond}
-use Rattle.plasma_tx.specs.declared.views.CoinView.{CoinView}
-use Rattle.plasma_tx.specs.Views.{coin_at, Exit, exits, block_of}
-use Rattle.plasma_tx.specs.Shown.{Tests, Rules, tests_by, root_at}
-use Rattle.plasma_tx.specs.Table.{is_accepted, answer_to, is_parent_of}
-use Rattle.plasma_tx.specs.Accepted.{StartsSpend}
-use Rattle.plasma_tx.proofs.Accepted.{accepted_calls_show}
+use Rattle.safety_laws.proofs.Basics.{◌≡◌, ◌≢◌, ℕ, ◌<◌, true, false, List, [], ◌∷◌, ◌++◌, inl, inr, refl, sym, ap, ◌∙◌, subst, arith, rules, is_some, nat_lt, AllByRecursion, ltb-true, and_parts}
+use Rattle.safety_laws.proofs.CoinWords.{RawOpening, Shown, RootCall, StartDeposit, StartSpend, Before, Respond, coin_at, Exit, exits, block_of, Tests, Rules, tests_by, root_at, is_accepted, answer_to, StartsSpend, accepted_calls_show, Has, has-left, has-right}
+use Rattle.safety_laws.proofs.WorldWords.{IsDigest, Event, Joins, log_of, wallet_owner, bound_by, openings_of, seen, strings_of, has_clash, forges_one, is_forged, IsLegal, some_same, all-from, IsShownAt, parent_shown, seen-call, SignsBy, Holding, none-before, forged-parts, HeldBefore, held_before, legal-before, at_event, IsSpend, is_spend, AtEvent, owner_is, tip_unspent, own-openings, e-positive, parent-below}
 use Rattle.plasma_tx.proofs.Each.{each-exit}
 use Rattle.watch_duty.specs.Laws.{shown_openings, openings_of_call}
-use Rattle.watch_duty.proofs.Members.{Has, has-left, has-right}
-use Rattle.world_rules.specs.Laws.{IsDigest}
-use Rattle.world_rules.specs.Events.{Event, Joins, log_of, wallet_owner, bound_by}
-use Rattle.world_rules.specs.Exhibits.{openings_of, seen, strings_of, has_clash, forges_one, is_forged}
-use Rattle.world_laws.specs.Legal.{IsLegal}
-use Rattle.world_laws.proofs.Lists.{some_same, all-from}
-use Rattle.world_laws.proofs.Shown.{IsShownAt, parent_shown, seen-call}
-use Rattle.world_laws.proofs.Bound.{SignsBy, Holding}
-use Rattle.world_laws.proofs.Before.{none-before, forged-parts, HeldBefore, held_before, legal-before, at_event}
-use Rattle.world_laws.proofs.Watched.{IsSpend, is_spend, AtEvent, owner_is, tip_unspent}
-use Rattle.world_laws.proofs.Steps.{own-openings, e-positive}
 
 abbrev pub IsUnspent : ℕ → ℕ → Exit → Type 0
 IsUnspent c e x = x.coin ≡ c → x.parent ≢ e
 
 abbrev pub AllUnspent : ℕ → ℕ → List Exit → Type 0
 AllUnspent c e xs = AllByRecursion (IsUnspent c e) xs
-
--- a parent is before the exit
-pub parent-below : (log : List RootCall) (made : CoinView) (exit : ℕ) (parent : Shown) → made.deposit < exit
-    → is_parent_of log made exit parent ≡ true → block_of parent < exit
-parent-below log made exit parent low fits = grind (arith, common_steps, eqb-true, ltb-true, and_parts)
 
 module _ (tests : Tests) (rules : Rules) (signs : SignsBy tests) (events : List Event) (w c e : ℕ)
     (legal : IsLegal tests rules events) (more : List RawOpening) (at : AtEvent tests rules events w c e more) where

@@ -1,26 +1,7 @@
 -- What a wallet took back: no accepted opening of its coin shows it.
-use Rattle.std.proofs.Common.{◌≡◌, ◌⊎◌, ℕ, ◌<◌, ◌≤◌, ◌==◌, ◌&&◌, ◌||◌, Bool, true, false, if◌then◌else◌, List, [], ◌∷◌, length, Some, inl, inr, refl, sym, ap, ◌∙◌, subst, arith, rules}
-use Rattle.std.specs.List.{list_any}
-use Rattle.std.proofs.lemmas.Bool.{cases_Bool, cases_eq, eq-eqb, eqb-true, ne_eqb, leb-true, or_from, or_parts, true≢false}
-use Rattle.std.proofs.lemmas.Grind.{common_steps}
-use Rattle.plasma_tx.specs.declared.body.Body.{Body}
-use Rattle.plasma_tx.specs.declared.opening.RawOpening.{RawOpening}
-use Rattle.plasma_tx.specs.declared.signed_tx.SignedTx.{SignedTx}
-use Rattle.plasma_tx.specs.declared.call.RootCall.{RootCall}
-use Rattle.plasma_tx.specs.declared.call.RootCall.TheVariants.{Deposit, Commit}
-use Rattle.plasma_tx.specs.Transfer.{may_stand_in}
-use Rattle.plasma_tx.specs.Views.{blocks}
-use Rattle.plasma_tx.proofs.Leaves.{transfer-read}
-use Rattle.plasma_tx.specs.Shown.{Tests, Rules, root_at}
-use Rattle.coin_history.specs.declared.bundle.Bundle.{Bundle}
-use Rattle.coin_history.specs.History.{leaf_of_opening, transfer_of}
-use Rattle.coin_history.proofs.HistoryGrow.{root_at-grown}
-use Rattle.watch_duty.proofs.Members.{Has, has-left}
-use Rattle.world_rules.specs.Events.{Event, Joins, TakesBack, log_of, bound_by, leaf_at, taken_back, is_taken, not_taken, signed_away_by, is_sent_from}
-use Rattle.world_rules.specs.Exhibits.{openings_of, seen}
-use Rattle.world_laws.specs.Legal.{LegalReclaim, IsLegal}
-use Rattle.world_laws.proofs.Lists.{some_same, none_some, any-some}
-use Rattle.world_laws.proofs.Clash.{IsOpened}
+use Rattle.world_laws.proofs.Basics.{◌≡◌, ◌⊎◌, ℕ, ◌<◌, ◌≤◌, ◌==◌, ◌&&◌, ◌||◌, Bool, true, false, if◌then◌else◌, List, [], ◌∷◌, length, Some, inl, inr, refl, sym, ap, ◌∙◌, arith, rules, subst, list_any, cases_Bool, cases_eq, eq-eqb, eqb-true, ne_eqb, leb-true, or_from, or_parts, true≢false, common_steps, some_same, none_some, any-some}
+use Rattle.world_laws.proofs.CoinWords.{Body, RawOpening, SignedTx, RootCall, may_stand_in, blocks, transfer-read, Tests, Rules, root_at, Bundle, leaf_of_opening, transfer_of, root_at-grown, Has, has-left, Deposit, Commit}
+use Rattle.world_laws.proofs.WorldWords.{Event, Joins, TakesBack, log_of, bound_by, leaf_at, taken_back, is_taken, not_taken, signed_away_by, is_sent_from, openings_of, seen, LegalReclaim, IsLegal}
 use Rattle.world_laws.proofs.Histories.{opened-grow, ShowsAbsent, absent-covers}
 use Rattle.world_laws.proofs.Shown.{seen-grow}
 
@@ -107,11 +88,7 @@ away-untake q c e taken [] other off = refl
 away-untake q c e taken (x ∷ xs) other off =
     let n : ℕ = length xs in
     any-without (names c e) (is_taken taken n) x (not_taken taken xs)
-    (λ free. elim (cases_Bool (q == n)) [
-      | inl on ↦ other x (simp on)
-      | inr apart ↦ any-top (names c e) ((q == n) || is_taken taken n) x (not_taken (q ∷ taken) xs)
-          (or_from _ _ apart free) off
-    ])
+    (grind (arith, common_steps, cases_Bool, any-top, or_from))
     (away-untake q c e taken xs (λ body is. other body (leaf_at-push q x xs body is))
     (any-rest (names c e) ((q == n) || is_taken taken n) x (not_taken (q ∷ taken) xs) off))
 
@@ -196,13 +173,7 @@ taken-new tests events w q bundle r = record {
     covers = λ n root above under is.
         let p = absent-covers tests (log_of events) bundle.coin r.body.parent r.last bundle.openings r.absent n root
         above under is in
-        record {
-          o = p.o;
-          has = has-left _ (seen events r.body.coin) p.o (simp (eq-eqb bundle.coin r.body.coin (sym r.coin_is)) p.has);
-          block_is = p.block_is;
-          empty = p.empty;
-          opened = subst (λ k. IsOpened tests (log_of events) k p.o) (sym r.coin_is) p.opened;
-        };
+        grind (arith, common_steps, has-left, eq-eqb);
   };
 }
 

@@ -1,41 +1,9 @@
 -- What a wallet's notes accept is shown by a bundle that events say it accepted: one of the same coin and tip, with the
 -- same links. Each command keeps it so.
-use Rattle.std.proofs.Common.{◌≡◌, ℕ, ◌^◌, ◌<◌, Bool, true, false, List, [], ◌∷◌, ◌++◌, Option, Some, None, Ok, inl, inr, refl, sym, ap, ◌∙◌, subst, arith}
-use Rattle.std.specs.Prelude.{Result, IfSome}
-use Rattle.std.proofs.lemmas.Bool.{false≢true, true≢false}
-use Rattle.std.proofs.lemmas.Grind.{common_steps}
-use Rattle.plasma_tx.specs.declared.links.Links.{Links}
-use Rattle.plasma_tx.specs.declared.call.RootCall.{RootCall}
-use Rattle.plasma_tx.specs.Views.{blocks}
-use Rattle.coin_history.specs.declared.bundle.Bundle.{Bundle}
-use Rattle.node_rules.specs.declared.answers.Accepted.{Accepted}
-use Rattle.node_rules.specs.declared.refusal.WalletRefusal.{WalletRefusal}
-use Rattle.node_rules.specs.Kept.{kept_of, links_handed}
-use Rattle.node_rules.specs.Laws.{IsReadBack}
-use Rattle.node_rules.specs.WalletRecords.{Note, Accepts as AcceptsNote, note_text, notes_of, accepted_of}
-use Rattle.node_rules.specs.Wallet.{WalletRecords, WalletEffect, who, coin_state, accept_effect, send_effect, leave_effect, reclaim_effect, migrate_effect}
-use Rattle.node_rules.specs.WalletLaws.{AddsNote}
-use Rattle.node_rules.specs.WalletCommandLaws.{AddsAccepted, AddsLeaving, AddsReclaimed}
-use Rattle.node_rules.proofs.WalletGrow.{accepted-accepts, accepted-leaves, accepted-reclaims}
-use Rattle.node_rules.proofs.WalletAdded.{send-note, migrate-note}
-use Rattle.node_rules.proofs.WalletRole.{accepts_add_their_notes, leaves_add_their_notes, reclaims_add_their_notes}
-use Rattle.watch_duty.proofs.Members.{has-cases}
-use Rattle.world_rules.specs.Events.{Event, Accepts}
-use Rattle.world_rules.specs.World.{Node, World, Wallet, wallet_of, is_wallet_role}
-use Rattle.world_rules.specs.Deeds.{Deed, as_deed}
-use Rattle.node_replies.specs.declared.order.NodeOrder.{NodeOrder}
-use Rattle.node_replies.specs.declared.order.WalletOrder.{WalletOrder}
-use Rattle.node_replies.specs.Orders.{with_record, on_accepted, wallet_does}
-use Rattle.world_rules.specs.Orders.{node_does}
-use Rattle.world_rules.specs.OrderEvents.{bundle_read, event_of}
-use Rattle.world_rules.proofs.OrderEnds.{OrderEnds, Accepting, wallet_told, order-ends}
-use Rattle.node_replies.proofs.ByteTexts.{Small}
-use Rattle.world_rules.proofs.Said.{Said, told}
-use Rattle.node_replies.proofs.WalletEnds.{AcceptEnds, Refused, Known, New, accept_ends}
-use Rattle.world_rules.proofs.WalletSends.{words}
-use Rattle.world_rules.proofs.KeptWallet.{KeptWallet}
-use Rattle.world_rules.proofs.KeptNode.{Feeds, IsFitOrder, wallet-alone}
-use Rattle.world_rules.specs.Evidence.{has_order}
+use Rattle.world_laws.proofs.Basics.{◌≡◌, ℕ, ◌^◌, ◌<◌, Bool, true, false, List, [], ◌∷◌, ◌++◌, Option, Some, None, Ok, inl, inr, refl, sym, subst, arith, ap, ◌∙◌, Result, IfSome, false≢true, true≢false, common_steps}
+use Rattle.world_laws.proofs.CoinWords.{Links, RootCall, blocks, Bundle, has-cases}
+use Rattle.world_laws.proofs.NodeWords.{Accepted, WalletRefusal, kept_of, links_handed, IsReadBack, AcceptsNote, note_text, notes_of, accepted_of, Note, WalletRecords, WalletEffect, who, accept_effect, send_effect, leave_effect, reclaim_effect, migrate_effect, coin_state, AddsNote, AddsAccepted, AddsLeaving, AddsReclaimed, accepted-accepts, accepted-leaves, accepted-reclaims, send-note, migrate-note, accepts_add_their_notes, leaves_add_their_notes, reclaims_add_their_notes, NodeOrder, WalletOrder, with_record, on_accepted, wallet_does, Small, AcceptEnds, Refused, Known, New, accept_ends}
+use Rattle.world_laws.proofs.WorldWords.{Event, Accepts, Node, World, Wallet, wallet_of, is_wallet_role, Deed, as_deed, node_does, bundle_read, event_of, OrderEnds, Accepting, wallet_told, order-ends, Said, told, words, KeptWallet, Feeds, IsFitOrder, wallet-alone, has_order}
 use Rattle.world_laws.proofs.GuardsShown.{AreShown, shown-more, handed-shown}
 
 -- what a wallet's notes accept
@@ -86,8 +54,7 @@ module _ (dig : List ℕ → List ℕ) (tag : List ℕ) (log : List RootCall) (f
       ]
 
   abbrev IsAccepted : List ℕ → WalletEffect (Result Accepted WalletRefusal) → Type 0
-  IsAccepted bytes effect =
-      IsAfter (wallet_told n (WalletOrder.Accept bytes) on_accepted effect.answer) effect.note
+  IsAccepted bytes effect = IsAfter (wallet_told n (WalletOrder.Accept bytes) on_accepted effect.answer) effect.note
 
   accept-shown : (bytes : List ℕ) → Small bytes → IsAccepted bytes (accept_effect dig wallet log bytes)
   unfolding event_of
@@ -132,8 +99,7 @@ module _ (dig : List ℕ → List ℕ) (tag : List ℕ) (log : List RootCall) (f
   if-some (Some body) more is = more body is
 
   if-none : (P : List ℕ → Type 0) (note : Option (List ℕ)) → note ≡ None → IfSome note P
-  if-none P None none = tt
-  if-none P (Some body) none = absurd (cc none)
+  if-none P note none = grind (arith, common_steps)
 
   other-shown : (order : WalletOrder) → is_accept (NodeOrder.Wallet order) ≡ false
       → IfSome (wallet_does dig log wallet order).note
@@ -154,14 +120,12 @@ module _ (dig : List ℕ → List ℕ) (tag : List ℕ) (log : List RootCall) (f
   wallet-shown (WalletOrder.Leave coin) fit =
       other-shown (WalletOrder.Leave coin) refl
       (if-some {P = AddsLeaving dig wallet log coin} (leave_effect dig wallet log coin).note
-      (λ body adds. ap (λ (notes : List Note). accepted_of notes) adds.2.1
-      ∙ accepted-leaves coin adds.0 (notes_of dig wallet.notes))
+      (grind (arith, common_steps, accepted-leaves))
       (leaves_add_their_notes dig wallet log coin kept.is (words dig s log wallet kept few) fit))
   wallet-shown (WalletOrder.Reclaim bytes) fit =
       other-shown (WalletOrder.Reclaim bytes) refl
       (if-some {P = AddsReclaimed dig wallet log bytes} (reclaim_effect dig wallet log bytes).note
-      (λ body adds. ap (λ (notes : List Note). accepted_of notes) adds.3.1
-      ∙ accepted-reclaims adds.0.coin adds.0.tip adds.0.q (notes_of dig wallet.notes))
+      (grind (arith, common_steps, accepted-reclaims))
       (reclaims_add_their_notes dig wallet log bytes kept.is fit.are (words dig s log wallet kept few)))
   wallet-shown WalletOrder.Migrate fit =
       other-shown WalletOrder.Migrate refl (if-none _ (migrate_effect wallet).note (migrate-note wallet))

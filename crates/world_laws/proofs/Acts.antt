@@ -1,21 +1,7 @@
 -- In every run each line is an act: what is known of the next one, and induction over them.
-use Rattle.std.proofs.Common.{◌≡◌, ℕ, List, [], ◌∷◌, Some}
-use Rattle.schedule_text.specs.declared.line.Line.{Line}
-use Rattle.schedule_text.specs.Grammar.{IsLine}
-use Rattle.world_rules.specs.Events.{Event, Idle}
-use Rattle.world_rules.specs.World.{World}
-use Rattle.world_rules.specs.Steps.{TraceEntry, entry_of, Run, events_of}
-use Rattle.world_rules.proofs.KeptRun.{run-kept}
-use Rattle.world_rules.proofs.KeptWorld.{KeptWorld, world-feeds}
-use Rattle.world_rules.proofs.Lives.{begun}
-use Rattle.world_rules.specs.Acts.{Act, act_of, done}
-use Rattle.world_rules.specs.Evidence.{IsActIn}
-use Rattle.world_rules.proofs.Lines.{acts_are_known}
-use Rattle.world_rules.proofs.Fitting.{IsFitAct, act-fits}
-use Rattle.world_rules.proofs.Lives.{HasCome, line_effect, good_runs_keep}
+use Rattle.world_laws.proofs.Basics.{◌≡◌, ℕ, List, [], ◌∷◌, Some, arith, common_steps}
+use Rattle.world_laws.proofs.WorldWords.{Line, IsLine, Event, Idle, World, TraceEntry, entry_of, Run, events_of, run-kept, KeptWorld, world-feeds, begun, Act, act_of, done, IsActIn, acts_are_known, IsFitAct, act-fits, HasCome, line_effect, good_runs_keep, OperatorIsFirst, IsRun}
 use Rattle.world_rules.proofs.Operators.{operator_is_first}
-use Rattle.world_rules.proofs.Told.{OperatorIsFirst}
-use Rattle.world_laws.specs.Headline.{IsRun}
 
 -- what is kept behind the events of every run
 pub kept-world : (dig : List ℕ → List ℕ) (lines : List Line) (run : Run) (world : World) → IsRun dig lines run world
@@ -64,13 +50,7 @@ module _ (dig : List ℕ → List ℕ) (P : List TraceEntry → World → Type 0
   pub over_acts : (lines : List Line) (run : Run) (world : World) → IsRun dig lines run world → P run.entries world
   over_acts lines run world run_is =
       good_runs_keep dig IsLine P first
-      (λ before so_far there line act come line_is act_is known.
-      next before so_far there line act (is-next dig before so_far there line act (record {
-        digest = run_is.digest;
-        lines_are = come.lines_are;
-        run_is = come.run_is;
-        world_is = come.world_is;
-      }) line_is act_is)) lines run world (has-come dig lines run world run_is)
+      (grind (arith, common_steps, is-next)) lines run world (has-come dig lines run world run_is)
 
 -- so of the events
 module _ (dig : List ℕ → List ℕ) (P : List Event → World → Type 0)

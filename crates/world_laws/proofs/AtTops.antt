@@ -1,38 +1,10 @@
 -- What a wallet holds at its top, as events say it, is what its records say that it holds or leaves with; and a bundle
 -- shows it.
-use Rattle.std.proofs.Common.{◌≡◌, ◌≢◌, ◌⊎◌, ℕ, ◌≤◌, ◌==◌, ◌&&◌, ◌||◌, Bool, true, false, if◌then◌else◌, List, [], ◌∷◌, find, Option, Some, None, inl, inr, refl, sym, ap, ◌∙◌, subst, arith}
-use Rattle.std.specs.Prelude.{unwrap_or}
-use Rattle.std.specs.List.{All, list_any}
-use Rattle.std.proofs.lemmas.Bool.{eqb-true, eq-eqb, and_parts, and_from, or_cases, or_left, or_right, true≢false, false≢true}
-use Rattle.std.proofs.lemmas.List.Elements.{All-nil, All-cons, All-contains}
-use Rattle.std.proofs.lemmas.Grind.{common_steps}
-use Rattle.plasma_tx.specs.declared.owner.Owner.{Owner}
-use Rattle.plasma_tx.specs.declared.call.RootCall.{RootCall}
-use Rattle.plasma_tx.specs.declared.views.CoinView.{CoinView}
-use Rattle.plasma_tx.specs.Views.{coin_at, is_withdrawn}
-use Rattle.coin_history.specs.declared.bundle.Bundle.{Bundle}
-use Rattle.wallet_core.specs.declared.notes.CoinTip.{CoinTip}
-use Rattle.wallet_core.specs.declared.notes.Notes.{Notes}
-use Rattle.wallet_core.specs.declared.coin_state.CoinState.TheVariants.{Leaving, Held}
-use Rattle.wallet_core.specs.State.{own_deposit, noted_tips, tips_of, is_noted}
-use Rattle.wallet_core.specs.Laws.{IsTip}
-use Rattle.wallet_core.proofs.StateLaws.{kept_coins_are_held, held_coins_are_kept}
-use Rattle.node_rules.specs.Kept.{kept_links}
-use Rattle.node_rules.specs.Watcher.{is_of}
-use Rattle.node_rules.specs.WalletRecords.{notes_of, owner_of, leaves_in, coin_tip}
-use Rattle.node_rules.specs.Wallet.{WalletRecords, who, noted, coin_state, kept_at}
-use Rattle.node_rules.proofs.WalletRole.{held-tip, leaving-tip}
-use Rattle.node_rules.proofs.ExitTips.{accepted-tips}
-use Rattle.watch_duty.proofs.Members.{Has, has-contains, contains-has, has-left, has-right, has-cases, has-filter, has-map, any-has, any-map}
-use Rattle.world_rules.specs.Events.{Event, log_of, accepted, is_bundle}
-use Rattle.world_rules.specs.Safety.{was_deposited, holds}
-use Rattle.world_rules.specs.Laws.{AreKept}
-use Rattle.world_rules.proofs.Said.{Said, said}
-use Rattle.world_rules.proofs.KeptWallet.{KeptWallet, state-me}
-use Rattle.world_rules.proofs.HeldSame.{are_kept}
-use Rattle.world_laws.specs.Legal.{is_tip, IsAtTop, ShowsTip, Taken, Bare}
-use Rattle.world_laws.proofs.Lists.{some_same, find-has}
-use Rattle.world_laws.proofs.Bound.{holding}
+use Rattle.world_laws.proofs.Basics.{◌≡◌, ◌≢◌, ◌⊎◌, ℕ, ◌≤◌, ◌==◌, ◌&&◌, ◌||◌, Bool, true, false, if◌then◌else◌, List, [], ◌∷◌, find, Option, Some, None, inl, inr, refl, sym, ap, ◌∙◌, subst, arith, unwrap_or, All, list_any, eqb-true, eq-eqb, and_parts, and_from, or_cases, or_left, or_right, true≢false, false≢true, All-nil, All-cons, All-contains, common_steps, some_same, find-has}
+use Rattle.world_laws.proofs.CoinWords.{Owner, RootCall, CoinView, coin_at, is_withdrawn, Bundle, CoinTip, Notes, Leaving, Held, own_deposit, noted_tips, tips_of, is_noted, IsTip, kept_coins_are_held, held_coins_are_kept, Has, has-contains, contains-has, has-left, has-right, has-cases, has-filter, has-map, any-has, any-map}
+use Rattle.world_laws.proofs.NodeWords.{kept_links, is_of, notes_of, owner_of, leaves_in, coin_tip, WalletRecords, who, noted, coin_state, kept_at, held-tip, leaving-tip, accepted-tips}
+use Rattle.world_laws.proofs.WorldWords.{Event, log_of, accepted, is_bundle, was_deposited, holds, AreKept, Said, said, KeptWallet, state-me, are_kept, is_tip, IsAtTop, ShowsTip, Bare}
+use Rattle.world_laws.proofs.HeldCoins.{holding}
 use Rattle.world_laws.proofs.GuardsShown.{IsShown, AreShown}
 use Rattle.world_laws.proofs.AcceptsShown.{node_with, accepted_in}
 
@@ -84,10 +56,7 @@ module _ (dig : List ℕ → List ℕ) (s : Said) (log : List RootCall) (wallet 
   me-same = state-me me (notes_of dig wallet.notes)
 
   own-tip : was_deposited me e (coin_at log c) ≡ true → Has (tips_of notes log c) e
-  own-tip own =
-      has-left (own_deposit notes.me (coin_at log c)) (noted_tips c notes.accepted) e
-      (subst (λ (o : Owner). Has (own_deposit o (coin_at log c)) e) (sym me-same)
-      (own-listed me e (coin_at log c) own))
+  own-tip own = grind (arith, common_steps, has-left, me-same, own-listed)
 
   came-tip : came ≡ true → Has (tips_of notes log c) e
   came-tip is = grind (arith, common_steps, or_cases, own-tip, has-right, noted-listed)
@@ -150,23 +119,12 @@ module _ (dig : List ℕ → List ℕ) (events : List Event) (tag : List ℕ) (l
 
   came-same : (c e : ℕ) → is_tip events n (owner) c e ≡ came dig (said events n) log wallet own c e
   unfolding said
-  came-same c e =
-      ap (λ l. was_deposited (owner) e (coin_at l c) || list_any (is_bundle c e) (accepted events n))
-      (sym log_is)
+  came-same c e = grind (arith, common_steps)
 
   held-came : (c e : ℕ) → holds events n c e ≡ true → is_tip events n (owner) c e ≡ true
   held-came c e held =
       let h = holding events n c e held in
-      let same : h.me ≡ owner = some_same h.me (owner) (sym h.me_is ∙ are.owner) in
-      elim h.source [
-        | inl own ↦
-            or_left (was_deposited (owner) e (coin_at (log_of events) c))
-            (list_any (is_bundle c e) (accepted events n))
-            (ap (λ (o : Owner). was_deposited o e (coin_at (log_of events) c)) (sym same) ∙ own)
-        | inr among ↦
-            or_right (was_deposited (owner) e (coin_at (log_of events) c))
-            (list_any (is_bundle c e) (accepted events n)) among
-      ]
+      grind (arith, common_steps, some_same, are, or_left, or_right)
 
   top-tip : (c e : ℕ) → IsAtTop events n (owner) c e → IsTip (noted dig wallet) log c e
   top-tip c e top =
@@ -220,11 +178,4 @@ module _ (dig : List ℕ → List ℕ) (events : List Event) (tag : List ℕ) (l
           let in_notes = find-has (is_of c e) (accepted_in dig wallet.notes) one some in
           let parts = and_parts (one.coin == c) (one.tip == e) in_notes.1 in
           let is = shown one in_notes.0 in
-          record {
-            bundle = is.bundle;
-            coin_is = is.coin ∙ eqb-true one.coin c parts.0;
-            tip_is = is.tip ∙ eqb-true one.tip e parts.1;
-            shows = Taken (has-contains (accepted events n) is.bundle is.has);
-            links = λ l. links-same tag l (accepted events n) one is
-                ∙ ap (λ (o : Option Bundle). kept_links tag l (unwrap_or o bare)) (sym some);
-          }
+          grind (arith, common_steps, eqb-true, has-contains, links-same, bare)

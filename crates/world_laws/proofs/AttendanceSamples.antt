@@ -1,10 +1,7 @@
 -- Small lists of events on which it is computed which ticks meet a deadline, and who attends them.
-use Rattle.std.proofs.Common.{◌≡◌, Bool, true, false, List, [], ◌∷◌, refl}
-use Rattle.plasma_tx.specs.declared.call.Shown.TheVariants.{Deposit as AtDeposit}
-use Rattle.plasma_tx.specs.declared.call.RootCall.TheVariants.{Fund, Tick, StartSpend, After}
-use Rattle.plasma_tx.specs.Views.{now, blocks, coins, coin_at, responses, exits, exit_at, is_withdrawn}
-use Rattle.world_rules.specs.Events.{Event, Joins, Bounces, Accepts, Guards, Releases, Binds, Watches, Other, log_of, wallet_owner, accepted, bound_by, taken_back, not_taken, guarded_by, watchers}
-use Rattle.world_rules.specs.Safety.{holds, is_quiet, is_guarded, is_attended, meets_deadline}
+use Rattle.world_laws.proofs.Basics.{◌≡◌, Bool, true, false, List, [], ◌∷◌, refl}
+use Rattle.world_laws.proofs.CoinWords.{AtDeposit, Fund, Tick, StartSpend, After, now, blocks, coins, coin_at, responses, exits, exit_at, is_withdrawn}
+use Rattle.world_laws.proofs.WorldWords.{Event, Joins, Bounces, Accepts, Guards, Releases, Binds, Watches, Other, log_of, wallet_owner, accepted, bound_by, taken_back, not_taken, guarded_by, watchers, holds, is_quiet, is_guarded, is_attended, meets_deadline}
 use Rattle.world_laws.proofs.Samples.{bundle, blank, sends, spend, started}
 use Rattle.world_laws.proofs.OwnExitSamples.{challenged, answered}
 

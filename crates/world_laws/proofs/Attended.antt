@@ -1,16 +1,7 @@
 -- What is attended is looked after.
-use Rattle.std.proofs.Common.{◌≡◌, ℕ, ◌==◌, ◌&&◌, ◌||◌, not, Bool, true, false, if◌then◌else◌, List, [], ◌∷◌, refl, sym, ap, ◌∙◌, arith}
-use Rattle.std.specs.List.{list_any}
-use Rattle.std.proofs.lemmas.Bool.{eqb-true, eq-eqb, and_parts, and_from, or_parts, or_cases, or_left, or_right, not-true, not_from_false, true≢false, false≢true, false_from_ne_true}
-use Rattle.std.proofs.lemmas.Grind.{common_steps}
-use Rattle.plasma_tx.specs.declared.call.RootCall.{RootCall}
-use Rattle.plasma_tx.specs.declared.call.RootCall.TheVariants.{Tick, Respond}
-use Rattle.plasma_tx.specs.Laws.{is_respond}
-use Rattle.watch_duty.proofs.Members.{any-has}
-use Rattle.world_rules.specs.Events.{Event, Joins, Watches, log_of, is_bundle, guarded_by, is_command_of, offered}
-use Rattle.world_rules.specs.Safety.{holds, meets_deadline, offers_none, is_watch, is_joined, is_quiet, is_guarded, needs_guardian, goes_unattended, is_attended}
-use Rattle.world_laws.specs.Looked.{is_on_exit, is_on_coin, fulfils, are_fulfilled, is_guardian, has_look, goes_unseen, is_looked_after, AttendedCoinsAreLookedAfter}
-use Rattle.world_laws.proofs.Lists.{and-seen, any-some}
+use Rattle.world_laws.proofs.Basics.{◌≡◌, ℕ, ◌==◌, ◌&&◌, ◌||◌, not, Bool, true, false, if◌then◌else◌, List, [], ◌∷◌, refl, ap, ◌∙◌, arith, sym, list_any, eqb-true, eq-eqb, and_parts, and_from, or_parts, or_cases, or_left, or_right, not-true, not_from_false, true≢false, false≢true, false_from_ne_true, common_steps, and-seen, any-some}
+use Rattle.world_laws.proofs.CoinWords.{RootCall, Tick, Respond, is_respond, any-has}
+use Rattle.world_laws.proofs.WorldWords.{Event, Joins, Watches, log_of, guarded_by, is_command_of, offered, holds, meets_deadline, offers_none, is_watch, is_joined, is_quiet, is_guarded, needs_guardian, goes_unattended, is_attended, is_on_exit, is_on_coin, fulfils, are_fulfilled, is_guardian, has_look, goes_unseen, is_looked_after, AttendedCoinsAreLookedAfter}
 use Rattle.world_laws.proofs.Nodes.{same-node}
 use Rattle.world_laws.proofs.Unseen.{EndsUnseen, IsUnseen, is_unseen}
 
@@ -64,8 +55,7 @@ module _ (opens is_asked : RootCall → Bool) (w c e : ℕ) (asks : AsksOf c is_
       → has_look opens is_asked [] events w c e ≡ true) [
         | true ↦ λ own wrong. absurd (false≢true wrong)
         | false ↦ λ other rest. quiet-looked events n rest
-            (ap (λ l. (n == w) || list_any (is_bundle c e) l) (sym (same-node event events n other refl).guards)
-            ∙ guardian)
+            (grind (arith, common_steps, same-node))
       ]) refl quiet
 
 -- where a guardian is quiet, it looked

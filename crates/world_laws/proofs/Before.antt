@@ -1,31 +1,9 @@
 -- What was before an event: no exhibit, and the coin held by the same owner, or no exit of it stands after the event.
-use Rattle.std.proofs.Common.{◌≡◌, ◌≢◌, ◌⊎◌, ℕ, ◌+◌, ◌==◌, ◌&&◌, true, false, if◌then◌else◌, List, [], ◌∷◌, ◌++◌, Some, inl, inr, refl, sym, ap, ◌∙◌, subst, arith, filter, rules}
-use Rattle.std.specs.List.{list_any, flat_map}
-use Rattle.std.proofs.lemmas.Bool.{cases_eq, ne_eqb, eq-eqb, eqb-true, and_parts, or_parts, or_cases, or_left, or_right, true≢false, false≢true, false_from_ne_true}
-use Rattle.std.proofs.lemmas.Grind.{common_steps}
-use Rattle.plasma_tx.specs.declared.owner.Owner.{Owner}
-use Rattle.plasma_tx.specs.declared.body.Body.{Body}
-use Rattle.plasma_tx.specs.declared.opening.RawOpening.{RawOpening}
-use Rattle.plasma_tx.specs.declared.call.RootCall.{RootCall}
-use Rattle.plasma_tx.specs.declared.call.RootCall.TheVariants.{Deposit, Finish}
-use Rattle.plasma_tx.specs.declared.views.CoinView.{CoinView}
-use Rattle.plasma_tx.specs.declared.views.ExitView.{ExitView}
-use Rattle.plasma_tx.specs.Views.{coins, coin_at, new_coin, Exit, exits, exit_at, exit_view, exits_of, is_withdrawn, has_no_open_challenge}
-use Rattle.plasma_tx.specs.Shown.{Tests, Rules, tests_by}
-use Rattle.plasma_tx.proofs.Bounds.{coin_at-le}
-use Rattle.watch_duty.proofs.Members.{Has}
-use Rattle.world_rules.specs.Laws.{IsDigest}
-use Rattle.world_rules.specs.Events.{Event, Declares, Joins, Accepts, Binds, TakesBack, log_of, wallet_owner, accepted, bound_by, taken_back, not_taken, leaf_at, is_sent_from, is_bundle}
-use Rattle.world_rules.specs.Exhibits.{openings_of, seen, strings_in, strings_of, has_clash, forges_one, is_forged}
-use Rattle.world_rules.specs.Safety.{was_deposited}
-use Rattle.world_laws.specs.Legal.{deposits_by, IsLegal}
-use Rattle.world_laws.proofs.Lists.{some_same, none_some, any-some, append-assoc}
-use Rattle.world_laws.proofs.Clash.{one_leaf}
-use Rattle.world_laws.proofs.Shown.{all_shown, seen-grow}
-use Rattle.world_laws.proofs.Absences.{names, away-untake, away-unbind, parted, back-more}
-use Rattle.world_laws.proofs.Bound.{Holding, is_noted, owner-is}
-use Rattle.world_laws.proofs.Held.{held_at}
-use Rattle.world_laws.proofs.DueCalls.{has-mapped, has-kept}
+use Rattle.world_laws.proofs.Basics.{◌≡◌, ◌≢◌, ◌⊎◌, ℕ, ◌+◌, ◌==◌, true, false, if◌then◌else◌, List, [], ◌∷◌, ◌++◌, Some, inl, inr, refl, sym, ap, ◌∙◌, subst, arith, filter, rules, ◌&&◌, list_any, flat_map, cases_eq, ne_eqb, eq-eqb, eqb-true, and_parts, or_parts, or_cases, or_left, or_right, true≢false, false≢true, false_from_ne_true, common_steps, some_same, none_some, any-some, append-assoc, has-kept}
+use Rattle.world_laws.proofs.CoinWords.{Owner, Body, RawOpening, RootCall, Deposit, Finish, CoinView, ExitView, coins, coin_at, new_coin, Exit, exits, exit_view, exits_of, is_withdrawn, exit_at, has_no_open_challenge, Tests, Rules, tests_by, coin_at-le, Has}
+use Rattle.world_laws.proofs.WorldWords.{IsDigest, Event, Declares, Joins, Accepts, Binds, TakesBack, log_of, wallet_owner, accepted, bound_by, taken_back, not_taken, leaf_at, is_sent_from, is_bundle, openings_of, seen, strings_of, has_clash, forges_one, is_forged, strings_in, was_deposited, deposits_by, IsLegal}
+use Rattle.world_laws.proofs.HeldCoins.{one_leaf, all_shown, seen-grow, names, away-untake, away-unbind, parted, back-more, Holding, is_noted, owner-is, held_at}
+use Rattle.world_laws.proofs.DueCalls.{has-mapped}
 use Rattle.world_laws.proofs.Watched.{AtEvent}
 
 -- ---- events that don't exhibit didn't before
@@ -68,22 +46,17 @@ withdrawn-before (Finish account k f) log c none =
     (or_parts ((k == c) && has_no_open_challenge (exit_at log k f)) (is_withdrawn log c) none).1
 withdrawn-before call log c none = none
 
-deposit-caller : (log : List RootCall) (c : ℕ) (made : CoinView) → coin_at log c ≡ Some made
+pub deposit-caller : (log : List RootCall) (c : ℕ) (made : CoinView) → coin_at log c ≡ Some made
     → list_any (deposits_by made.owner.account) log ≡ true
 unfolding coin_at
 deposit-caller [] c made is = absurd (none_some made is)
 deposit-caller (Deposit account amount key ∷ log) c made is =
     (elim (c == coins log + 1) as (λ b. (if b then Some (new_coin log account amount key) else coin_at log c)
     ≡ Some made → list_any (deposits_by made.owner.account) (Deposit account amount key ∷ log) ≡ true) [
-      | true ↦ λ same. or_left (account == made.owner.account) (list_any (deposits_by made.owner.account) log)
-          (eq-eqb account made.owner.account
-          (ap (λ (x : CoinView). x.owner.account) (some_same (new_coin log account amount key) made same)))
-      | false ↦ λ later. or_right (account == made.owner.account) (list_any (deposits_by made.owner.account) log)
-          (deposit-caller log c made later)
+      | true ↦ grind (arith, common_steps, or_left, eq-eqb, some_same)
+      | false ↦ λ later. grind (arith, common_steps, deposit-caller log c made later, or_right)
     ]) is
-deposit-caller (call ∷ log) c made is =
-    or_right (deposits_by made.owner.account call) (list_any (deposits_by made.owner.account) log)
-    (deposit-caller log c made is)
+deposit-caller (call ∷ log) c made is = grind (arith, common_steps, deposit-caller log c made is, or_right)
 
 abbrev pub NoneStands : List RootCall → ℕ → Type 0
 NoneStands log c = (x : Exit) → Has (exits log) x → x.coin ≡ c → ⊥
@@ -96,8 +69,7 @@ none-stands log k c none same x there c_is =
     (has-kept (λ (exit : Exit). exit.coin == k) (exits log) x there (eq-eqb x.coin k (c_is ∙ sym same))))
 
 abbrev pub HeldBefore : (event : Event) (events : List Event) (w c e : ℕ) → Owner → Type 0
-HeldBefore event events w c e me =
-    ((h : Holding events w c e) × (h.me ≡ me)) ⊎ NoneStands (log_of (event ∷ events)) c
+HeldBefore event events w c e me = ((h : Holding events w c e) × (h.me ≡ me)) ⊎ NoneStands (log_of (event ∷ events)) c
 
 before-deposit : (tests : Tests) (rules : Rules) (account amount : ℕ) (key : List ℕ) (events : List Event)
     (w c e : ℕ) → IsLegal tests rules events → (h : Holding (Joins (Deposit account amount key) ∷ events) w c e)

@@ -1,31 +1,7 @@
 -- Who holds a coin, the bundles that were accepted, and that no spend of a held tip was.
-use Rattle.std.proofs.Common.{◌≡◌, ◌≢◌, ◌⊎◌, ℕ, ◌<◌, ◌==◌, true, false, if◌then◌else◌, List, [], ◌∷◌, Option, Some, inl, inr, refl, sym, ap, ◌∙◌, subst, arith, rules}
-use Rattle.std.specs.Prelude.{is_some, nat_eq}
-use Rattle.std.specs.List.{list_any}
-use Rattle.std.specs.Option.{option_eq}
-use Rattle.std.proofs.lemmas.Bool.{cases_eq, ne_eqb, eq-eqb, eqb-true, and_parts, and_from, and_cases, or_parts, or_cases, not-true, true≢false, false≢true}
-use Rattle.std.proofs.lemmas.Slice.Eq.{bytes_eq-Decides}
-use Rattle.std.proofs.lemmas.Grind.{common_steps}
-use Rattle.plasma_tx.specs.declared.owner.Owner.{Owner}
-use Rattle.plasma_tx.specs.declared.body.Body.{Body}
-use Rattle.plasma_tx.specs.declared.opening.RawOpening.{RawOpening}
-use Rattle.plasma_tx.specs.declared.signed_tx.SignedTx.{SignedTx}
-use Rattle.plasma_tx.specs.declared.links.Links.{Links}
-use Rattle.plasma_tx.specs.declared.call.RootCall.{RootCall}
-use Rattle.plasma_tx.specs.Links.{last_owner_of}
-use Rattle.plasma_tx.specs.Transfer.{is_signed_by}
-use Rattle.plasma_tx.specs.Views.{coin_at, is_withdrawn}
-use Rattle.plasma_tx.specs.Shown.{Tests, Rules}
-use Rattle.coin_history.specs.declared.bundle.Bundle.{Bundle}
-use Rattle.coin_history.specs.History.{transfer_of, IsHistory}
-use Rattle.coin_history.proofs.HistoryGrow.{histories_stay}
-use Rattle.watch_duty.proofs.Members.{Has, has-left, any-has, has-filter}
-use Rattle.wallet_core.specs.State.{is_owner}
-use Rattle.world_rules.specs.Events.{Event, Declares, Joins, Accepts, Guards, Releases, log_of, wallet_owner, accepted, bound_by, signed_away_by, is_sent_from, is_bundle, guarded_by}
-use Rattle.world_rules.specs.Exhibits.{openings_of, seen, is_same_body, forges_one, is_forged}
-use Rattle.world_rules.specs.Safety.{was_deposited, holds}
-use Rattle.world_laws.specs.Legal.{IsLegal}
-use Rattle.world_laws.proofs.Lists.{some_same, none_some, any-none, any-some}
+use Rattle.world_laws.proofs.Basics.{◌≡◌, ◌≢◌, ◌⊎◌, ℕ, ◌<◌, ◌==◌, true, false, if◌then◌else◌, List, [], ◌∷◌, Option, Some, inl, inr, refl, sym, ap, ◌∙◌, subst, arith, rules, is_some, nat_eq, list_any, option_eq, cases_eq, ne_eqb, eq-eqb, eqb-true, and_parts, and_from, and_cases, or_parts, or_cases, not-true, true≢false, false≢true, bytes_eq-Decides, common_steps, some_same, none_some, any-none, any-some}
+use Rattle.world_laws.proofs.CoinWords.{Owner, Body, RawOpening, SignedTx, Links, RootCall, last_owner_of, is_signed_by, coin_at, is_withdrawn, Tests, Rules, Bundle, transfer_of, IsHistory, histories_stay, Has, has-left, any-has, has-filter, is_owner}
+use Rattle.world_laws.proofs.WorldWords.{Event, Declares, Accepts, Guards, Releases, log_of, wallet_owner, accepted, bound_by, signed_away_by, is_sent_from, is_bundle, guarded_by, Joins, openings_of, seen, is_same_body, forges_one, is_forged, was_deposited, holds, IsLegal}
 use Rattle.world_laws.proofs.Clash.{IsOpened, HasOneLeaf}
 use Rattle.world_laws.proofs.Walk.{empty-no_tx}
 use Rattle.world_laws.proofs.Shown.{seen-grow}
@@ -123,17 +99,7 @@ pub unspent : (tests : Tests) (rules : Rules) (log : List RootCall) (os : List R
     → e < o.block → transfer_of rules c o ≡ Some tx → tx.body.parent ≡ e → IsBoundTo bodies tx → ⊥
 unspent tests rules log os c e bodies standing one not_away parts o tx has opened above is parent b =
     let f = bound-facts rules c e bodies o tx is parent b in
-    elim (parts b.body b.has f.0) [
-      | inl stands ↦ true≢false (sym (any-has (names c e) standing b.body stands
-          (and_from (b.body.coin == c) (b.body.parent == e) (eq-eqb b.body.coin c f.0) (eq-eqb b.body.parent e f.1)))
-          ∙ not_away)
-      | inr k ↦
-          let low = tx-last rules c o tx k.last is (f.2 ∙ k.last_is) in
-          let p = k.covers o.block opened.root (omega (arith, above, f.1)) low opened.root_is in
-          let leaf = one o p.o has p.has opened (subst (λ n. IsOpened tests log n p.o) f.0 p.opened)
-          (sym p.block_is) in
-          empty-no_tx rules c o tx (leaf ∙ p.empty) is
-    ]
+    grind (arith, common_steps, true≢false, any-has, names, and_from, eq-eqb, tx-last, empty-no_tx)
 
 -- ---- what it is to hold
 

@@ -1,38 +1,11 @@
 -- A bundle that an operator makes that keeps to the rules is one of a history.
-use Rattle.std.proofs.Common.{◌≡◌, ℕ, zero, suc, ◌+◌, ◌^◌, ◌<◌, ◌≤◌, ◌==◌, Bool, true, false, if◌then◌else◌, List, [], ◌∷◌, length, filter, Contains, Option, Some, None, Ok, refl, sym, ap, ◌∙◌, subst, nat_lt, arith}
-use Rattle.std.specs.Option.{option_and_then}
-use Rattle.std.specs.Str.{bytes_eq}
-use Rattle.std.proofs.lemmas.Bool.{eq-eqb, and_from}
-use Rattle.std.proofs.lemmas.List.Elements.{Contains-append_left}
-use Rattle.std.proofs.lemmas.Slice.Eq.{bytes_eq-Decides}
-use Rattle.std.proofs.lemmas.Grind.{common_steps}
-use Rattle.sparse_merkle.specs.declared.tree.Entry.{Entry}
-use Rattle.sparse_merkle.specs.TreeDigest.{leaf_of}
-use Rattle.plasma_tx.specs.declared.owner.Owner.{Owner}
-use Rattle.plasma_tx.specs.declared.links.Links.{Links}
-use Rattle.plasma_tx.specs.declared.call.RootCall.{RootCall}
-use Rattle.plasma_tx.specs.declared.views.CoinView.{CoinView}
+use Rattle.world_laws.proofs.Basics.{◌≡◌, ℕ, zero, suc, ◌+◌, ◌^◌, ◌<◌, ◌≤◌, ◌==◌, Bool, true, false, if◌then◌else◌, List, [], ◌∷◌, length, filter, Contains, Option, Some, None, Ok, refl, sym, ap, ◌∙◌, subst, nat_lt, arith, option_and_then, eq-eqb, and_from, bytes_eq-Decides, common_steps, Contains-append_left}
+use Rattle.world_laws.proofs.CoinWords.{Entry, leaf_of, Owner, Links, RootCall, CoinView, tip_of, last_owner_of, transfer_in, blocks, coins, block_at, coin_at, root_in, root_at, tests_by, Bundle, IsBundle, bundle_in, bundle_text, IsHistory, history_of, bundle_in-text, histories_are_found, is_owner}
+use Rattle.world_laws.proofs.NodeWords.{chain_of, links_handed}
+use Rattle.world_laws.proofs.OperatorWords.{Note, forest_of, tree_of, tree_at, commits, start_of, moved_by, place_at, bundle_of, Act, log_of, kept_notes, times_committed, times_sealed, IsHonest, AreDistinct, root_at-deposit, sealed-tree}
+use Rattle.world_laws.proofs.WorldWords.{IsDigest}
 use Rattle.plasma_tx.specs.declared.views.BlockView.TheVariants.{Root}
-use Rattle.plasma_tx.specs.Links.{tip_of, last_owner_of}
-use Rattle.plasma_tx.specs.Transfer.{transfer_in}
-use Rattle.plasma_tx.specs.Views.{blocks, coins, block_at, coin_at}
-use Rattle.plasma_tx.specs.Shown.{root_in, root_at, tests_by}
-use Rattle.coin_history.specs.declared.bundle.Bundle.{Bundle}
-use Rattle.coin_history.specs.Bundles.{IsBundle, bundle_in, bundle_text}
-use Rattle.coin_history.specs.History.{IsHistory}
-use Rattle.coin_history.specs.Checking.{history_of}
-use Rattle.coin_history.proofs.BundleLaws.{bundle_in-text}
-use Rattle.coin_history.proofs.HistoryFound.{histories_are_found}
-use Rattle.wallet_core.specs.State.{is_owner}
-use Rattle.node_rules.specs.Kept.{chain_of, checked_by, links_handed}
-use Rattle.operator_rules.specs.Records.{Note}
-use Rattle.operator_rules.specs.Trees.{forest_of, tree_of, tree_at, commits}
-use Rattle.operator_rules.specs.Walk.{start_of, moved_by, place_at}
-use Rattle.operator_rules.specs.Commands.{bundle_of}
-use Rattle.operator_rules.specs.Acts.{Act, log_of, kept_notes, times_committed, times_sealed, IsHonest, AreDistinct}
 use Rattle.operator_rules.proofs.Made.{bundles_are_histories}
-use Rattle.operator_rules.proofs.Trees.{root_at-deposit, sealed-tree}
-use Rattle.world_rules.specs.Laws.{IsDigest}
 use Rattle.world_laws.proofs.OperatorGrowth.{HasTrees, tree-stays}
 
 -- ---- roots that are committed
@@ -57,10 +30,7 @@ committed-once (RootCall.Commit account committed ∷ log) n root is =
           let more = filter-more (commits root) (RootCall.Commit account committed) log in
           omega (arith, once, more)
     ]) is
-committed-once (call ∷ log) n root is =
-    let once = committed-once log n root is in
-    let more = filter-more (commits root) call log in
-    omega (arith, once, more)
+committed-once (call ∷ log) n root is = grind (arith, common_steps, committed-once log n root is, filter-more)
 
 -- each coin has a block
 pub coins-few : (log : List RootCall) → coins log ≤ blocks log
@@ -136,14 +106,7 @@ good-at dig tag acts log notes coin tip made log_is notes_is digest narrow =
     (λ small honest distinct coin_is at.
     let good = bundles_are_histories dig (chain_of tag) acts coin tip made (λ bytes. (digest bytes).0) narrow small
     honest distinct coin_is at in
-    record {
-      bundle = good.bundle;
-      links = good.links;
-      made_is = good.made;
-      is_bundle = good.is_bundle;
-      is_history = good.is_history;
-      ends_with = good.ends_with;
-    }))
+    grind (arith, common_steps)))
 
 -- a history of a bundle's bytes, which ends with an owner at a tip
 pub record IsOwnHistory (dig : List ℕ → List ℕ) (tag : List ℕ) (log : List RootCall) (bytes : List ℕ)
@@ -157,10 +120,7 @@ pub record IsOwnHistory (dig : List ℕ → List ℕ) (tag : List ℕ) (log : Li
   pub tip_is : tip_of links ≡ tip
 
 same-owner : (one other : Owner) → one ≡ other → is_owner one other ≡ true
-same-owner one other is =
-    and_from (one.account == other.account) (bytes_eq one.key other.key)
-    (eq-eqb one.account other.account (ap (λ (o : Owner). o.account) is))
-    ((bytes_eq-Decides one.key other.key).1 (ap (λ (o : Owner). o.key) is))
+same-owner one other is = grind (arith, common_steps, and_from, eq-eqb, bytes_eq-Decides)
 
 pub own-history : (dig : List ℕ → List ℕ) (tag : List ℕ) (log : List RootCall) (sealed : List (List Entry))
     (bundle : Bundle) (bytes : List ℕ) (coin tip : ℕ) (made : CoinView) (me : Owner)
@@ -174,12 +134,4 @@ own-history dig tag log sealed bundle bytes coin tip made me good is coin_is tip
     ap bundle_in (bytes_are ∙ ap bundle_text (sym same)) ∙ bundle_in-text good.bundle good.is_bundle in
     let history = histories_are_found (tests_by dig) (chain_of tag) log good.bundle good.links good.is_bundle.rising
     good.is_history in
-    record {
-      bundle = good.bundle;
-      links = good.links;
-      history = history;
-      handed = ap (checked_by dig tag log) read ∙ good.is_history;
-      mine = same-owner (last_owner_of good.links) me (good.ends_with ∙ owner_is);
-      coin_is = ap (λ (l : Links). l.coin) history.shown ∙ ap (λ (b : Bundle). b.coin) same ∙ coin_is;
-      tip_is = history.tip ∙ ap (λ (b : Bundle). b.tip) same ∙ tip_is;
-    }
+    grind (arith, common_steps, same-owner)

@@ -1,37 +1,10 @@
 -- What a line makes that is answered with a bundle: the bytes of the bundle that the operator's notes and the log give.
-use Rattle.std.proofs.Common.{◌≡◌, ℕ, Bool, true, false, if◌then◌else◌, List, Option, Some, Ok, Err, refl, sym, ap, ◌∙◌, subst, slice_get, arith}
-use Rattle.std.specs.Prelude.{Result}
-use Rattle.std.proofs.lemmas.Bool.{false≢true, eq-eqb, eqb-true}
-use Rattle.std.proofs.lemmas.Grind.{common_steps}
-use Rattle.coin_history.specs.declared.bundle.Bundle.{Bundle}
-use Rattle.coin_history.specs.Bundles.{bundle_text}
-use Rattle.schedule_text.specs.declared.line.Line.{Line}
-use Rattle.schedule_text.specs.declared.command.Command.{Command}
-use Rattle.schedule_text.specs.declared.command.OperatorCommand.{OperatorCommand}
-use Rattle.schedule_text.specs.Grammar.{node_of}
-use Rattle.plasma_tx.specs.declared.call.RootCall.{RootCall}
-use Rattle.plasma_tx.specs.declared.views.CoinView.{CoinView}
-use Rattle.plasma_tx.specs.Views.{coin_at}
-use Rattle.plasma_tx.specs.declared.opening.RawOpening.{RawOpening}
-use Rattle.sparse_merkle.specs.declared.tree.Entry.{Entry}
+use Rattle.world_laws.proofs.Basics.{◌≡◌, ℕ, Bool, true, false, if◌then◌else◌, List, Option, Some, Ok, sym, ap, ◌∙◌, slice_get, arith, Err, refl, Result, false≢true, eq-eqb, eqb-true, common_steps, some_same}
+use Rattle.world_laws.proofs.CoinWords.{Bundle, bundle_text, RootCall, CoinView, coin_at, RawOpening, Entry}
+use Rattle.world_laws.proofs.NodeWords.{Reply, prove_cause, NodeOrder, OperatorOrder, answered, on_bundled, operator_does}
+use Rattle.world_laws.proofs.OperatorWords.{Place, present, as_bundle, bundle_to, bundle_of, bundle_answer, tip_asked}
+use Rattle.world_laws.proofs.WorldWords.{Line, Command, OperatorCommand, node_of, Other, Node, World, is_operator_role, order_of, event_of, LineEffect, with_mail, IsCommandIn, NodePlace, Cut, Act, Rests, Orders, End, Whole, Crashed, Kept, Lost, act_of, end_of, end_effect, deed_at, done, line_effect, IsFound, understood-in}
 use Rattle.operator_rules.specs.declared.refusal.ProveRefusal.{ProveRefusal}
-use Rattle.operator_rules.specs.Walk.{Place, present}
-use Rattle.operator_rules.specs.Commands.{as_bundle, bundle_to, bundle_of, bundle_answer, tip_asked}
-use Rattle.node_replies.specs.declared.reply.Reply.{Reply}
-use Rattle.node_replies.specs.Causes.{prove_cause}
-use Rattle.world_rules.specs.Events.{Other}
-use Rattle.world_rules.specs.World.{Node, World, is_operator_role}
-use Rattle.node_replies.specs.declared.order.NodeOrder.{NodeOrder}
-use Rattle.node_replies.specs.declared.order.OperatorOrder.{OperatorOrder}
-use Rattle.node_replies.specs.Orders.{answered, on_bundled, operator_does}
-use Rattle.world_rules.specs.Orders.{order_of}
-use Rattle.world_rules.specs.OrderEvents.{event_of}
-use Rattle.world_rules.specs.Steps.{LineEffect, without_offers, with_mail}
-use Rattle.world_rules.specs.Laws.{IsCommandIn}
-use Rattle.world_rules.specs.Acts.{Place as NodePlace, Cut, Act, Rests, Orders, End, Whole, Crashed, Kept, Lost, is_down_for, order_act, act_of, end_of, end_effect, deed_at, done}
-use Rattle.world_rules.proofs.Lives.{line_effect}
-use Rattle.world_rules.proofs.Lookups.{IsFound, understood-in}
-use Rattle.world_laws.proofs.Lists.{some_same}
 
 -- ---- the bundle that is asked for
 
@@ -58,11 +31,7 @@ bundle-again dig tag log sealed coin asked tip made bundle coin_is is tip_is =
     let at : bundle_to dig log sealed coin made (tip_asked asked place) ≡ Ok bundle =
     ap (bundle_of dig tag log sealed coin asked) (sym coin_is) ∙ is in
     let parts = to-is dig log sealed coin made (tip_asked asked place) bundle at in
-    let asked_is : tip_asked asked place ≡ tip = sym parts.1 ∙ tip_is in (
-      ap (bundle_of dig tag log sealed coin tip) coin_is
-          ∙ ap (bundle_to dig log sealed coin made) (asked-again asked tip place asked_is ∙ sym asked_is) ∙ at,
-      parts.0,
-    )
+    grind (arith, common_steps, asked-again)
 
 -- ---- the line
 
@@ -104,9 +73,7 @@ module _ (dig : List ℕ → List ℕ) (world : World) (coin asked tip : ℕ) wh
   unfolding order_of done operator_does
   line-made line act is_command is =
       let (cut, by) = understood-in world line command act is is_command in
-      subst Makes by.act_is
-      (subst (λ (o : NodeOrder). Makes (order_act cut by.place o)) (some_same order by.order by.order_is)
-      (ordered cut by.place by.at (is_down_for order by.place.node)))
+      grind (arith, common_steps, some_same, ordered)
     where
       ended : (place : NodePlace) → IsFound world is_operator_role (node_of command) place → (end : End)
           → (end_effect world place (deed_at dig world place order) end).reply ≡ Reply.Bundled tip
@@ -115,31 +82,11 @@ module _ (dig : List ℕ → List ℕ) (world : World) (coin asked tip : ℕ) wh
       ended place at Whole reply =
           let found = answered-bundle place.number (bundle_answer dig place.node.notes world.chain.log coin asked)
           reply in
-          record {
-            n = place.number;
-            node = place.node;
-            node_is = at.there;
-            role = at.role;
-            bundle = found.0;
-            answer_is = found.1;
-            tip_is = found.2;
-            made_is = found.3;
-            event_is = found.4;
-          }
+          grind (arith, common_steps)
       ended place at Crashed reply =
           let found = answered-bundle place.number (bundle_answer dig place.node.notes world.chain.log coin asked)
           reply in
-          record {
-            n = place.number;
-            node = place.node;
-            node_is = at.there;
-            role = at.role;
-            bundle = found.0;
-            answer_is = found.1;
-            tip_is = found.2;
-            made_is = found.3;
-            event_is = ap (without_offers place.number) found.4;
-          }
+          grind (arith, common_steps)
       ended place at Kept reply = absurd (cc reply)
       ended place at Lost reply = absurd (cc reply)
 

@@ -1,23 +1,8 @@
 -- A wallet takes a bundle that is a history which ends with it, unless the coin was withdrawn or an exit stands.
-use Rattle.std.proofs.Common.{◌≡◌, ℕ, Bool, true, false, if◌then◌else◌, List, [], ◌∷◌, ◌++◌, length, Option, Ok, nat_lt, arith}
-use Rattle.std.specs.Prelude.{Result}
-use Rattle.std.proofs.lemmas.Grind.{common_steps}
-use Rattle.plasma_tx.specs.declared.links.Links.{Links}
-use Rattle.plasma_tx.specs.declared.call.RootCall.{RootCall}
-use Rattle.plasma_tx.specs.Links.{tip_of, last_owner_of}
-use Rattle.plasma_tx.specs.Views.{is_withdrawn}
-use Rattle.node_journal.specs.Effect.{first_cause}
-use Rattle.wallet_core.specs.State.{is_owner}
-use Rattle.node_rules.specs.declared.answers.Accepted.{Accepted}
-use Rattle.node_rules.specs.declared.refusal.WalletRefusal.{WalletRefusal}
-use Rattle.node_rules.specs.Kept.{kept_of, links_handed, standing_block, most_note}
-use Rattle.node_rules.specs.WalletRecords.{Accepts, note_text, owner_of}
-use Rattle.node_rules.specs.Wallet.{WalletRecords, WalletEffect, answers, notes_it, unless, who, standing_causes, accept_effect}
-use Rattle.node_replies.specs.declared.reply.Reply.{Reply}
-use Rattle.node_replies.specs.Causes.{wallet_cause}
-use Rattle.node_replies.specs.Orders.{answered, on_accepted}
-use Rattle.world_rules.proofs.KeptWallet.{state-me}
-use Rattle.world_laws.specs.Bundles.{IsTakenBundle}
+use Rattle.world_laws.proofs.Basics.{◌≡◌, ℕ, Bool, true, false, if◌then◌else◌, List, [], ◌∷◌, ◌++◌, length, Option, Ok, nat_lt, arith, Result, common_steps}
+use Rattle.world_laws.proofs.CoinWords.{Links, RootCall, tip_of, last_owner_of, is_withdrawn, is_owner}
+use Rattle.world_laws.proofs.NodeWords.{first_cause, Accepted, WalletRefusal, kept_of, links_handed, standing_block, most_note, Accepts, note_text, owner_of, WalletRecords, WalletEffect, answers, notes_it, unless, who, standing_causes, accept_effect, Reply, wallet_cause, answered, on_accepted}
+use Rattle.world_laws.proofs.WorldWords.{state-me, IsTakenBundle}
 
 module _ (dig : List ℕ → List ℕ) (wallet : WalletRecords) (log : List RootCall) (bytes : List ℕ)
     (links : Links) where

@@ -1,49 +1,10 @@
 -- A bundle that an operator made that keeps to the rules is taken by the wallet that it is for.
-use Rattle.std.proofs.Common.{◌≡◌, ℕ, zero, suc, ◌^◌, ◌<◌, ◌≤◌, ◌&&◌, not, true, false, if◌then◌else◌, List, [], ◌∷◌, ◌++◌, length, Some, None, Ok, refl, sym, ap, ◌∙◌, subst, slice_get, nat_lt, arith}
-use Rattle.std.specs.List.{list_any}
-use Rattle.std.proofs.lemmas.Bool.{or_parts, true≢false}
-use Rattle.std.proofs.lemmas.List.Folds.{list_any-append}
+use Rattle.world_laws.proofs.Basics.{◌≡◌, ℕ, zero, suc, ◌^◌, ◌<◌, ◌≤◌, ◌&&◌, not, true, false, if◌then◌else◌, List, [], ◌∷◌, ◌++◌, length, Some, None, Ok, refl, sym, ap, ◌∙◌, subst, slice_get, nat_lt, arith, list_any, or_parts, true≢false, list_any-append, common_steps, some_same}
+use Rattle.world_laws.proofs.CoinWords.{Entry, leaf_of, tip_of, Owner, CoinView, RootCall, signed_in, blocks, coin_at, coin_at-le, bundle_text}
+use Rattle.world_laws.proofs.NodeWords.{kept_of, links_handed, most_note, Accepts, note_text, who_is_wallet, accept_effect, wallet_cause, NodeOrder, Reply, WalletOrder, answered, on_accepted, wallet_does}
+use Rattle.world_laws.proofs.OperatorWords.{notes_of, Found, place_at, forest_in, bundle_of, bundle_answer}
+use Rattle.world_laws.proofs.WorldWords.{Line, Command, WalletCommand, OperatorCommand, Event, log_of, Joins, Node, World, is_wallet_role, number_of, owner_of_node, wallet_of, bytes_of, is_joined, order_of, LineEffect, TraceEntry, Run, step, events_of, run-kept, KeptWorld, Place, Rests, Orders, order_act, act_of, done, understood, IsRun, CommitsOnce, IsHonestSoFar, WasBundled, IsTakenBundle, HonestBundlesAreTaken, is_barred, line_effect, stepped, OperatorIsFirst}
 use Rattle.line_forms.specs.declared.tokens.HexOrItem.{HexOrItem}
-use Rattle.sparse_merkle.specs.declared.tree.Entry.{Entry}
-use Rattle.sparse_merkle.specs.TreeDigest.{leaf_of}
-use Rattle.plasma_tx.specs.Links.{tip_of}
-use Rattle.plasma_tx.specs.declared.owner.Owner.{Owner}
-use Rattle.plasma_tx.specs.declared.views.CoinView.{CoinView}
-use Rattle.plasma_tx.specs.declared.call.RootCall.{RootCall}
-use Rattle.plasma_tx.specs.Spelling.{signed_in}
-use Rattle.plasma_tx.specs.Views.{blocks, coin_at}
-use Rattle.plasma_tx.proofs.Bounds.{coin_at-le}
-use Rattle.coin_history.specs.Bundles.{bundle_text}
-use Rattle.schedule_text.specs.declared.line.Line.{Line}
-use Rattle.schedule_text.specs.declared.command.Command.{Command}
-use Rattle.schedule_text.specs.declared.command.WalletCommand.{WalletCommand}
-use Rattle.schedule_text.specs.declared.command.OperatorCommand.{OperatorCommand}
-use Rattle.node_rules.specs.Kept.{kept_of, links_handed, most_note}
-use Rattle.node_rules.specs.WalletRecords.{Accepts, note_text, who_is as who_is_wallet}
-use Rattle.node_rules.specs.Wallet.{accept_effect}
-use Rattle.operator_rules.specs.Records.{notes_of}
-use Rattle.operator_rules.specs.Trees.{tree_at}
-use Rattle.operator_rules.specs.Walk.{Place as Found, place_at}
-use Rattle.operator_rules.specs.Commands.{forest_in, bundle_of, bundle_answer}
-use Rattle.node_replies.specs.Causes.{wallet_cause}
-use Rattle.world_rules.specs.Events.{Event, Joins, log_of}
-use Rattle.world_rules.specs.World.{Node, World, is_wallet_role, number_of, owner_of_node, wallet_of, bytes_of}
-use Rattle.world_rules.specs.Safety.{is_joined}
-use Rattle.node_replies.specs.declared.order.NodeOrder.{NodeOrder}
-use Rattle.node_replies.specs.declared.reply.Reply.{Reply}
-use Rattle.node_replies.specs.declared.order.WalletOrder.{WalletOrder}
-use Rattle.node_replies.specs.Orders.{answered, on_accepted, wallet_does}
-use Rattle.world_rules.specs.Orders.{order_of}
-use Rattle.world_rules.specs.Steps.{LineEffect, TraceEntry, Run, step, events_of}
-use Rattle.world_rules.proofs.KeptRun.{run-kept}
-use Rattle.world_rules.proofs.KeptWorld.{KeptWorld}
-use Rattle.world_rules.specs.Acts.{Place, Act, Rests, Orders, order_act, act_of, done}
-use Rattle.world_rules.proofs.Lookups.{understood}
-use Rattle.world_laws.specs.Headline.{IsRun}
-use Rattle.world_laws.specs.Bundles.{is_barred, CommitsOnce, IsHonestSoFar, WasBundled, IsTakenBundle, HonestBundlesAreTaken}
-use Rattle.world_laws.proofs.Lists.{some_same}
-use Rattle.world_rules.proofs.Lives.{line_effect, stepped}
-use Rattle.world_rules.proofs.Told.{OperatorIsFirst}
 use Rattle.world_laws.proofs.Acts.{first-alone}
 use Rattle.world_laws.proofs.Keeps.{own-tag, runs-keep}
 use Rattle.world_laws.proofs.SignedDeeds.{named-role}
@@ -147,10 +108,7 @@ own-bundle dig lines run world op coin tip bytes made me run_is honest was coin_
     quiet = ap (λ (e : TraceEntry). is_joined e.event) s.entry_is ∙ ap is_joined line.event_is
 
     log_same : world.chain.log ≡ s.old.chain.log
-    log_same =
-        kept.log_is ∙ ap (λ (es : List TraceEntry). log_of (events_of es)) was.entries_are
-        ∙ log-since was.later (was.entry ∷ was.earlier) was.since ∙ log-rest was.entry was.earlier quiet
-        ∙ ap (λ (es : List TraceEntry). log_of (events_of es)) (sym s.entries_are) ∙ sym kept_then.log_is
+    log_same = grind (arith, common_steps, kept, log-since, log-rest, quiet, s, kept_then)
 
     tag_same : world.chain.tag ≡ s.old.chain.tag
     tag_same = s.later.tag
@@ -161,13 +119,8 @@ own-bundle dig lines run world op coin tip bytes made me run_is honest was coin_
     has : HasKeeping dig (events_of s.before.entries) s.old.chain s.old.nodes
     has =
         runs-keeping dig s.lines s.before s.old s.run_is
-        (subst AreAllowed (sym s.entries_are)
-        (allowed-before (was.entry ∷ []) was.earlier
-        (allowed-before was.later (was.entry ∷ was.earlier) (subst AreAllowed was.entries_are allowed))))
-        (subst (λ (es : List TraceEntry). CommitsOnce (events_of es)) (sym s.entries_are)
-        (once-rest was.entry was.earlier
-        (once-before was.later (was.entry ∷ was.earlier)
-        (subst (λ (es : List TraceEntry). CommitsOnce (events_of es)) was.entries_are honest.once))))
+        (grind (arith, common_steps, s, allowed-before, allowed))
+        (grind (arith, common_steps, s, once-rest, once-before))
 
     keeping : IsKeeping dig (events_of s.before.entries) s.old.chain has.op
     keeping = has.is
@@ -201,10 +154,7 @@ own-bundle dig lines run world op coin tip bytes made me run_is honest was coin_
     few = subst (λ (log : List RootCall). blocks log ≤ 3000) (sym log_same) small
 
     narrow : coin < 2 ^ 64
-    narrow =
-        let low = coin_at-le s.old.chain.log coin made coin_then in
-        let high = coins-few s.old.chain.log in
-        omega (arith, low, high, small)
+    narrow = grind (arith, common_steps, coin_at-le, s, coin_then, coins-few, small)
 
     good : IsGoodAt dig s.old.chain.tag s.old.chain.log (forest_in has.op.notes).sealed coin tip made
     good =
@@ -212,9 +162,7 @@ own-bundle dig lines run world op coin tip bytes made me run_is honest was coin_
         keeping.log_is keeping.notes_is run_is.digest narrow (omega (arith, small))
         (keeping.honest (λ n c tree tx tree_is signed.
         honest.in_time n c tree tx
-        (ap (λ (log : List RootCall). tree_at dig log (forest_in op.notes).sealed n) log_same
-        ∙ tree-at-same dig s.old.chain.log (forest_in has.op.notes).sealed (forest_in op.notes).sealed
-        keeping.counted trees n ∙ tree_is)
+        (grind (arith, common_steps, log_same, tree-at-same, s, has, keeping, trees))
         (ap (λ (tag : List ℕ). signed_in tag (leaf_of tree c)) tag_same ∙ signed)))
         (distinct-before dig (forest_in has.op.notes).sealed (forest_in op.notes).sealed trees honest.distinct)
         coin_then (ap (λ (p : Found). p.block) place_then)
@@ -243,17 +191,7 @@ unfolding act_of order_of done wallet_does
 accept-reply dig world name n node token effect number node_is is_up is =
     let command = Command.Wallet name (WalletCommand.Accept token) in
     let made = stepped dig world (Line.Command command) effect is in
-    let one = understood world None command made.act made.act_is in
-    let number_same : one.place.number ≡ n = some_same one.place.number n (sym one.at.number ∙ number) in
-    let node_same : one.place.node ≡ node =
-    some_same one.place.node node (sym one.at.there ∙ ap (slice_get world.nodes) number_same ∙ node_is) in
-    ap (λ (e : LineEffect). e.reply) (sym made.effect_is)
-    ∙ ap (λ (act : Act). (done dig world act).reply) (sym one.act_is)
-    ∙ ap (λ (o : NodeOrder). (done dig world (order_act None one.place o)).reply)
-    (sym (some_same order one.order one.order_is))
-    ∙ replied one.place (ap (λ (k : Node). k.is_up) node_same ∙ is_up)
-    ∙ ap (λ (k : Node). (answered wallet_cause on_accepted
-    (accept_effect dig (wallet_of k) world.chain.log (bytes_of world token)).answer).reply) node_same
+    grind (arith, common_steps, understood, some_same, order, replied)
   where
     order : NodeOrder
     order = NodeOrder.Wallet (WalletOrder.Accept (bytes_of world token))

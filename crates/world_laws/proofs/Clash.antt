@@ -1,24 +1,8 @@
 -- Two accepted openings of one block show one leaf, where no two of the strings that they digest clash.
-use Rattle.std.proofs.Common.{◌≡◌, ◌≢◌, ℕ, true, false, List, [], ◌∷◌, Some, inl, inr, sym, ap, ◌∙◌, subst, arith, rules}
-use Rattle.std.specs.List.{flat_map}
-use Rattle.std.specs.Str.{bytes_eq}
-use Rattle.std.proofs.lemmas.Bool.{cases_Bool, and_from, or_parts, true≢false, false≢true, not_from_false, false_from_ne_true}
-use Rattle.std.proofs.lemmas.Slice.Eq.{bytes_eq-Decides}
-use Rattle.std.proofs.lemmas.Grind.{common_steps}
-use Rattle.sparse_merkle.specs.MaskedPath.{proof_path}
-use Rattle.sparse_merkle.specs.Opening.{hashed_strings, is_opening}
+use Rattle.world_laws.proofs.Basics.{◌≡◌, ◌≢◌, ℕ, true, false, List, [], ◌∷◌, Some, inl, inr, sym, ap, ◌∙◌, subst, arith, rules, flat_map, bytes_eq, cases_Bool, and_from, or_parts, true≢false, false≢true, not_from_false, false_from_ne_true, bytes_eq-Decides, common_steps, some_same}
+use Rattle.world_laws.proofs.CoinWords.{proof_path, hashed_strings, is_opening, RawOpening, Opening, RootCall, leaf-shown, Tests, Rules, tests_by, root_at, leaf_of_opening, transfer_of, Has, has-left, has-right, any-has, contains-has, transfer_in}
+use Rattle.world_laws.proofs.WorldWords.{IsDigest, strings_in, strings_of, do_clash, has_clash}
 use Rattle.sparse_merkle.proofs.OpeningLaws.{HasClash-openings}
-use Rattle.plasma_tx.specs.declared.opening.RawOpening.{RawOpening}
-use Rattle.plasma_tx.specs.declared.opening.Opening.{Opening}
-use Rattle.plasma_tx.specs.declared.call.RootCall.{RootCall}
-use Rattle.plasma_tx.specs.Transfer.{transfer_in}
-use Rattle.plasma_tx.proofs.OpeningTexts.{leaf-shown}
-use Rattle.plasma_tx.specs.Shown.{Tests, Rules, tests_by, root_at}
-use Rattle.coin_history.specs.History.{leaf_of_opening, transfer_of}
-use Rattle.watch_duty.proofs.Members.{Has, has-left, has-right, any-has, contains-has}
-use Rattle.world_rules.specs.Laws.{IsDigest}
-use Rattle.world_rules.specs.Exhibits.{strings_in, strings_of, do_clash, has_clash}
-use Rattle.world_laws.proofs.Lists.{some_same}
 
 -- the opening opens its block's root
 pub record IsOpened (tests : Tests) (log : List RootCall) (c : ℕ) (o : RawOpening) : Type 0 where

@@ -1,23 +1,9 @@
 -- In every run, what wallets do with their coins is legal: each accept, each transfer that a leaf binds, and each that
 -- is taken back, in cuts too. It is what was left to be shown, so all events of every run are legal.
-use Rattle.std.proofs.Common.{◌≡◌, ℕ, true, List, Some, slice_get, arith}
-use Rattle.std.proofs.lemmas.Grind.{common_steps}
-use Rattle.plasma_tx.specs.declared.call.RootCall.{RootCall}
-use Rattle.plasma_tx.specs.Shown.{tests_by, rules_of}
-use Rattle.schedule_text.specs.declared.line.Line.{Line}
-use Rattle.node_replies.specs.declared.order.NodeOrder.{NodeOrder}
-use Rattle.world_rules.specs.Events.{Event}
-use Rattle.world_rules.specs.World.{Node, World, wallet_of}
-use Rattle.world_rules.specs.Deeds.{Deed}
-use Rattle.world_rules.specs.Steps.{without_offers, Run, events_of}
-use Rattle.world_rules.proofs.KeptNode.{IsFitOrder}
-use Rattle.world_rules.proofs.KeptWorld.{KeptWorld, few-blocks}
-use Rattle.world_rules.proofs.OrderEnds.{OrderEnds, Accepting, Binding, TakingBack, order-ends}
-use Rattle.world_rules.specs.Acts.{NewWallet, Act, Adds, Enters, Orders, End, end_of, event_after, deed_at, done}
-use Rattle.world_rules.specs.Evidence.{has_order, IsActIn}
-use Rattle.world_rules.proofs.Fitting.{IsFitAct}
-use Rattle.world_laws.specs.Headline.{IsRun}
-use Rattle.world_laws.specs.Legal.{IsLegal}
+use Rattle.world_laws.proofs.Basics.{◌≡◌, ℕ, true, List, Some, slice_get, arith, common_steps}
+use Rattle.world_laws.proofs.CoinWords.{RootCall, tests_by, rules_of}
+use Rattle.world_laws.proofs.NodeWords.{NodeOrder}
+use Rattle.world_laws.proofs.WorldWords.{Line, Event, Node, World, wallet_of, Deed, without_offers, Run, events_of, IsFitOrder, KeptWorld, few-blocks, OrderEnds, Accepting, Binding, TakingBack, order-ends, NewWallet, Act, Adds, Enters, Orders, End, end_of, event_after, deed_at, done, has_order, IsActIn, IsFitAct, IsRun, IsLegal}
 use Rattle.world_laws.proofs.Keeps.{own-tag}
 use Rattle.world_laws.proofs.LegalCalls.{IsBehind, is-behind}
 use Rattle.world_laws.proofs.LegalEvents.{IsLeft, LeftAreLegal, runs-are-legal}

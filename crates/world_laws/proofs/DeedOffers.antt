@@ -1,33 +1,9 @@
 -- What orders offer: challenges and answers by a watch, a wallet's own start by a leave, the operator's commit by a
 -- seal. None of it deposits, and a start is by the account of the wallet that offers it.
-use Rattle.std.proofs.Common.{◌≡◌, ℕ, true, false, List, [], Option, Some, None, Ok, Err, inl, inr, refl, sym, ◌∙◌, subst, arith}
-use Rattle.std.specs.Prelude.{Result}
-use Rattle.std.specs.List.{range_with_len}
-use Rattle.std.specs.Option.{option_map_or}
-use Rattle.std.proofs.lemmas.Bool.{eqb-true, false≢true}
-use Rattle.std.proofs.lemmas.Grind.{common_steps}
-use Rattle.plasma_tx.specs.declared.links.Link.{Link}
-use Rattle.plasma_tx.specs.declared.links.Links.{Links}
-use Rattle.plasma_tx.specs.declared.call.RootCall.{RootCall}
-use Rattle.plasma_tx.specs.declared.views.ExitView.{ExitView}
-use Rattle.plasma_tx.specs.Views.{coins, exits_of}
-use Rattle.wallet_core.specs.declared.coin_state.CoinState.{CoinState}
-use Rattle.wallet_core.specs.declared.coin_state.CoinState.TheVariants.{Nothing, Sending, Leaving, Held}
-use Rattle.node_rules.specs.declared.refusal.WalletRefusal.{WalletRefusal}
-use Rattle.node_rules.specs.Kept.{kept_links}
-use Rattle.node_rules.specs.WalletRecords.{owner_of}
-use Rattle.node_rules.specs.Wallet.{WalletRecords, who, coin_state, links_at, start_by, exit_start, leave_effect, due_in, watch_answer as wallet_watch}
-use Rattle.node_rules.specs.Watcher.{due_for_kept, guards_in, who_is as who_is_watcher, watch_answer as watcher_watch}
-use Rattle.watch_duty.specs.Duty.{due_for, due_of}
-use Rattle.watch_duty.proofs.Members.{Has, has-flat_map}
-use Rattle.watch_duty.proofs.Dues.{IsDue, due_for-due}
-use Rattle.world_rules.specs.World.{Node, World, is_wallet_role, is_operator_role, wallet_of, owner_of_node}
-use Rattle.node_replies.specs.declared.order.NodeOrder.{NodeOrder}
-use Rattle.world_rules.specs.Events.{Event}
-use Rattle.world_rules.proofs.OrderEnds.{OrderEnds, Leaving, Watching, GuardWatching, Sealing, order-ends}
-use Rattle.world_rules.specs.Acts.{Place, deed_at}
-use Rattle.world_rules.specs.Evidence.{has_order, MayOrder}
-use Rattle.world_laws.specs.Legal.{starts_by, deposits_by}
+use Rattle.world_laws.proofs.Basics.{◌≡◌, ℕ, true, false, List, [], Option, Ok, Err, inl, inr, refl, sym, ◌∙◌, subst, arith, Some, None, Result, option_map_or, eqb-true, false≢true, common_steps}
+use Rattle.world_laws.proofs.CoinWords.{Link, Links, RootCall, ExitView, exits_of, CoinState, Nothing, Sending, Leaving, Held, due_for, due_of, Has, has-flat_map, IsDue, due_for-due}
+use Rattle.world_laws.proofs.NodeWords.{WalletRefusal, owner_of, WalletRecords, who, links_at, start_by, exit_start, leave_effect, due_in, wallet_watch, watcher_watch, NodeOrder}
+use Rattle.world_laws.proofs.WorldWords.{Node, World, is_wallet_role, is_operator_role, wallet_of, owner_of_node, Event, OrderEnds, Leaving, Watching, GuardWatching, Sealing, order-ends, Place, deed_at, has_order, MayOrder, starts_by, deposits_by}
 use Rattle.world_laws.proofs.Identities.{IsOffer}
 use Rattle.world_laws.proofs.OperatorActs.{commits_root}
 
@@ -58,10 +34,7 @@ linked-quiet log account (Some links) call h = due-quiet log account links call 
 wallet-quiet : (dig : List ℕ → List ℕ) (wallet : WalletRecords) (log : List RootCall) (call : RootCall)
     → Has (wallet_watch dig wallet log) call → IsQuiet call
 unfolding wallet_watch
-wallet-quiet dig wallet log call h =
-    let found = has-flat_map (λ coin. due_in dig wallet log coin (coin_state dig wallet log coin))
-    (range_with_len 1 (coins log)) call h in
-    by found.0 (coin_state dig wallet log found.0) found.2
+wallet-quiet dig wallet log call h = grind (arith, common_steps, has-flat_map, by)
   where
     by : (coin : ℕ) (state : CoinState) → Has (due_in dig wallet log coin state) call → IsQuiet call
     by coin Nothing h = absurd h
@@ -72,10 +45,7 @@ wallet-quiet dig wallet log call h =
 watcher-quiet : (dig : List ℕ → List ℕ) (notes : List (List ℕ)) (log : List RootCall) (call : RootCall)
     → Has (watcher_watch dig notes log) call → IsQuiet call
 unfolding watcher_watch
-watcher-quiet dig notes log call h =
-    let found = has-flat_map (due_for_kept (who_is_watcher notes).tag log (who_is_watcher notes).account)
-    (guards_in dig notes) call h in
-    linked-quiet log (who_is_watcher notes).account (kept_links (who_is_watcher notes).tag log found.0) call found.2
+watcher-quiet dig notes log call h = grind (arith, common_steps, has-flat_map, linked-quiet)
 
 -- ---- starts
 

@@ -1,28 +1,9 @@
 -- What is due for the exits of a coin that a node guards, and so is among the calls that it offers.
-use Rattle.std.proofs.Common.{◌≡◌, ℕ, ◌+◌, ◌<◌, ◌≤◌, ◌==◌, ◌&&◌, ◌||◌, cond, not, Bool, true, false, if◌then◌else◌, List, [], ◌∷◌, map, Option, Some, None, inl, inr, refl, sym, ap, ◌∙◌, subst, arith, find, filter, rules}
-use Rattle.std.specs.Prelude.{is_some, is_none, nat_lt, unwrap_or}
-use Rattle.std.specs.Option.{option_map, option_or}
-use Rattle.std.specs.List.{list_any, flat_map}
-use Rattle.std.proofs.lemmas.Bool.{eq-eqb, lt-ltb, le-ltb, lt-leb, and_from, not_from_false, false≢true}
-use Rattle.std.proofs.lemmas.Grind.{common_steps}
-use Rattle.plasma_tx.specs.declared.owner.Owner.{Owner}
-use Rattle.plasma_tx.specs.declared.links.Link.{Link}
-use Rattle.plasma_tx.specs.declared.links.Links.{Links}
-use Rattle.plasma_tx.specs.declared.call.RootCall.{RootCall}
-use Rattle.plasma_tx.specs.declared.call.RootCall.TheVariants.{After, Between, Before, Respond}
-use Rattle.plasma_tx.specs.declared.views.ChallengeView.{ChallengeView}
-use Rattle.plasma_tx.specs.declared.views.CoinView.{CoinView}
+use Rattle.world_laws.proofs.Basics.{◌≡◌, ℕ, ◌+◌, ◌<◌, ◌≤◌, ◌==◌, ◌&&◌, not, Bool, true, false, if◌then◌else◌, List, [], ◌∷◌, map, Option, Some, None, inl, inr, refl, sym, ap, ◌∙◌, subst, arith, filter, rules, is_some, is_none, nat_lt, unwrap_or, option_map, option_or, flat_map, eq-eqb, lt-ltb, le-ltb, lt-leb, and_from, not_from_false, false≢true, common_steps, has-in-flat_map, has-kept, none-any}
+use Rattle.world_laws.proofs.CoinWords.{Owner, Link, Links, RootCall, After, Between, Before, Respond, CoinView, tip_of, now, Challenge, Exit, exits, challenge_at, challenge_view, exit_view, exits_of, block_of, CHALLENGE_WINDOW, RESPONSE_WINDOW, Tests, Rules, link_after, tip_shown, within, answer, due_for, due_of, Has, any-map}
+use Rattle.world_laws.proofs.WorldWords.{Event, log_of, seen}
+use Rattle.world_laws.proofs.HeldCoins.{IsShownAt, IsGoodGuard}
 use Rattle.plasma_tx.specs.ChallengeLists.{is_challenged}
-use Rattle.plasma_tx.specs.Links.{tip_of}
-use Rattle.plasma_tx.specs.Views.{now, Challenge, Exit, exits, challenge_at, challenge_view, exit_view, exits_of, block_of}
-use Rattle.plasma_tx.specs.declared.rules.TheConstants.{CHALLENGE_WINDOW, RESPONSE_WINDOW}
-use Rattle.plasma_tx.specs.Shown.{Tests, Rules}
-use Rattle.watch_duty.specs.Duty.{link_after, tip_shown, within, answer, due_for, due_of}
-use Rattle.watch_duty.proofs.Members.{Has, has-left, has-right, any-map}
-use Rattle.world_rules.specs.Events.{Event, log_of}
-use Rattle.world_rules.specs.Exhibits.{seen}
-use Rattle.world_laws.proofs.Shown.{IsShownAt}
-use Rattle.world_laws.proofs.Held.{IsGoodGuard}
 
 -- ---- members
 
@@ -30,27 +11,6 @@ pub has-mapped : {X Y : Type 0} (f : X → Y) (xs : List X) (x : X) → Has xs x
 has-mapped f [] x h = absurd h
 has-mapped f (y ∷ ys) x (inl is) = inl (ap f is)
 has-mapped f (y ∷ ys) x (inr h) = inr (has-mapped f ys x h)
-
-pub has-kept : {X : Type 0} (p : X → Bool) (xs : List X) (x : X) → Has xs x → p x ≡ true → Has (filter p xs) x
-has-kept p [] x h is = absurd h
-has-kept p (y ∷ ys) x (inl same) is =
-    subst (λ b. Has (cond b (y ∷ filter p ys) (filter p ys)) x) (sym (ap p same ∙ is)) (inl same)
-has-kept p (y ∷ ys) x (inr h) is = grind (arith, common_steps, has-kept p ys x h is)
-
-has-flat : {X Y : Type 0} (f : X → List Y) (xs : List X) (x : X) (y : Y) → Has xs x → Has (f x) y
-    → Has (flat_map f xs) y
-has-flat f [] x y h is = absurd h
-has-flat f (z ∷ zs) x y (inl same) is =
-    has-left (f z) (flat_map f zs) y (subst (λ w. Has (f w) y) (sym same) is)
-has-flat f (z ∷ zs) x y (inr h) is = has-right (f z) (flat_map f zs) y (has-flat f zs x y h is)
-
-none-any : {X : Type 0} (p : X → Bool) (xs : List X) → is_none (find p xs) ≡ true → list_any p xs ≡ false
-none-any p [] none = refl
-none-any p (x ∷ xs) none =
-    (elim (p x) as (λ b. is_none (if b then Some x else find p xs) ≡ true → (b || list_any p xs) ≡ false) [
-      | true ↦ λ wrong. absurd (false≢true wrong)
-      | false ↦ λ rest. none-any p xs rest
-    ]) none
 
 -- ---- one exit
 
@@ -133,7 +93,7 @@ module _ (tests : Tests) (rules : Rules) (events : List Event) (c : ℕ) (made :
   unfolding exits_of
   due-offered call h =
       g.due call
-      (has-flat (due_for (log_of events) g.account g.links) (exits_of (log_of events) g.links.coin) (exit_view x) call
+      (has-in-flat_map (due_for (log_of events) g.account g.links) (exits_of (log_of events) g.links.coin) (exit_view x) call
       (has-mapped exit_view (filter (λ exit. exit.coin == g.links.coin) (exits (log_of events))) x
       (has-kept (λ (exit : Exit). exit.coin == g.links.coin) (exits (log_of events)) x there
       (eq-eqb x.coin g.links.coin (c_is ∙ sym g.good.coin_is)))) h)
@@ -155,10 +115,7 @@ module _ (tests : Tests) (rules : Rules) (events : List Event) (c : ℕ) (made :
 
   unchallenged : is_none (challenge_at e x.challenges) ≡ true
       → is_challenged (tip_of g.links) (map challenge_view x.challenges) ≡ false
-  unchallenged none =
-      ap (λ n. is_challenged n (map challenge_view x.challenges)) g.good.tip_is
-      ∙ any-map challenge_view (λ (v : ChallengeView). v.block == e) x.challenges
-      ∙ none-any (λ (ch : Challenge). ch.block == e) x.challenges none
+  unchallenged none = grind (arith, common_steps, any-map, none-any)
 
   -- what each due call gives, where one is due: in the window of an exit before the tip, of one of a later block with a
   -- parent before the tip, and of one with a parent after the tip that isn't challenged there
@@ -214,6 +171,6 @@ module _ (tests : Tests) (rules : Rules) (events : List Event) (c : ℕ) (made :
       let call : RootCall = Respond g.account g.links.coin x.block ch.block a.0.opening in (
         a.0,
         subst (λ (l : List RootCall). Has l call) (sym all)
-            (has-flat (answer (log_of events) g.account g.links (exit_view x)) (map challenge_view x.challenges)
+            (has-in-flat_map (answer (log_of events) g.account g.links (exit_view x)) (map challenge_view x.challenges)
             (challenge_view ch) call (has-mapped challenge_view x.challenges ch has) a.1),
       )

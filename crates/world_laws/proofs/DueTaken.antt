@@ -1,37 +1,10 @@
 -- A call that a watch offers is accepted at once, where there is money for a Before.
-use Rattle.std.proofs.Common.{◌≡◌, ℕ, true, false, if◌then◌else◌, List, [], ◌∷◌, ◌++◌, Option, Some, None, refl, sym, ap, ◌∙◌, subst, arith, rules}
-use Rattle.std.specs.Option.{option_map_or}
-use Rattle.std.proofs.lemmas.Grind.{common_steps}
-use Rattle.plasma_tx.specs.declared.opening.RawOpening.{RawOpening}
-use Rattle.plasma_tx.specs.declared.owner.Owner.{Owner}
-use Rattle.plasma_tx.specs.declared.links.Links.{Links}
-use Rattle.plasma_tx.specs.declared.call.RootCall.{RootCall}
-use Rattle.plasma_tx.specs.declared.views.CoinView.{CoinView}
-use Rattle.plasma_tx.specs.declared.views.ExitView.{ExitView}
-use Rattle.plasma_tx.specs.Views.{coin_at, exits_of}
-use Rattle.plasma_tx.specs.Shown.{Tests, Rules, tests_by, root_at}
-use Rattle.coin_history.specs.declared.bundle.Bundle.{Bundle}
-use Rattle.coin_history.specs.History.{committed_blocks, links_of, AreLinked, IsHistory}
-use Rattle.coin_history.proofs.HistoryLinks.{tip-is, tip_from, none-linked}
-use Rattle.node_rules.specs.Kept.{kept_links}
-use Rattle.node_rules.specs.Watcher.{due_for_kept}
-use Rattle.watch_duty.specs.Duty.{due_for, due_of}
-use Rattle.watch_duty.specs.Laws.{HaveOneLeaf, is_poor_before}
-use Rattle.watch_duty.proofs.Members.{Has, has-cases, has-contains, contains-has, has-flat_map}
-use Rattle.watch_duty.proofs.Dues.{IsDue as IsDueFor, due_for-due}
-use Rattle.watch_duty.proofs.Shown.{seen as log_seen}
+use Rattle.world_laws.proofs.Basics.{◌≡◌, ℕ, true, false, if◌then◌else◌, List, [], ◌∷◌, ◌++◌, Option, Some, None, refl, sym, ap, ◌∙◌, subst, arith, rules, common_steps}
+use Rattle.world_laws.proofs.CoinWords.{RawOpening, Owner, Links, RootCall, CoinView, ExitView, coin_at, exits_of, Tests, Rules, tests_by, root_at, Bundle, committed_blocks, links_of, AreLinked, IsHistory, tip-is, tip_from, none-linked, due_for, due_of, HaveOneLeaf, is_poor_before, Has, has-cases, has-contains, contains-has, has-flat_map, IsDueFor, due_for-due, log_seen}
+use Rattle.world_laws.proofs.NodeWords.{kept_links, due_for_kept}
+use Rattle.world_laws.proofs.WorldWords.{Event, Watches, log_of, coin_of_call, accepted, guarded_by, is_command_of, offered, wallet_owner, seen, collides, is_watch, is_joined, lacks_bond, fresh_offers, Taken, Bare, ShowsGuard, IsLegal, LegalDueCallsAreTaken, fresh_offers}
+use Rattle.world_laws.proofs.HeldCoins.{HasOneLeaf, one_leaf, legal-log, log-seen, is_noted, IsKept, is_kept, kept-grow, deposited-coin}
 use Rattle.watch_duty.proofs.Accepts.{due_calls_are_accepted}
-use Rattle.world_rules.specs.Events.{Event, Watches, log_of, coin_of_call, wallet_owner, accepted, guarded_by, is_command_of, offered}
-use Rattle.world_rules.specs.Exhibits.{seen, collides}
-use Rattle.world_rules.specs.Safety.{is_watch, is_joined}
-use Rattle.world_laws.specs.Headline.{lacks_bond}
-use Rattle.world_laws.specs.LegalLaws.{fresh_offers}
-use Rattle.world_laws.specs.Legal.{Taken, Bare, ShowsGuard, IsLegal}
-use Rattle.world_laws.specs.LegalLaws.{LegalDueCallsAreTaken}
-use Rattle.world_laws.proofs.Clash.{HasOneLeaf, one_leaf}
-use Rattle.world_laws.proofs.Shown.{legal-log, log-seen}
-use Rattle.world_laws.proofs.Bound.{is_noted, IsKept, is_kept, kept-grow}
-use Rattle.world_laws.proofs.Held.{deposited-coin}
 use Rattle.world_laws.proofs.Nodes.{same-node}
 use Rattle.world_laws.proofs.Guards.{kept-some, due_of-coin}
 
@@ -115,7 +88,7 @@ poor-same : (log : List RootCall) (account : ℕ) (links : Links) (x : ExitView)
 poor-same log account links x call h5 = grind (arith, common_steps)
 
 -- the openings of the history and of the log's calls have one leaf in each block
-leaves-of : (tests : Tests) (events : List Event) (c : ℕ) (os : List RawOpening)
+pub leaves-of : (tests : Tests) (events : List Event) (c : ℕ) (os : List RawOpening)
     → HasOneLeaf tests (log_of events) c (seen events c) → ((o : RawOpening) → Has os o → Has (seen events c) o)
     → HaveOneLeaf tests (log_of events) c (log_seen (log_of events) c ++ os)
 leaves-of tests events c os one has a b root in_a in_b same committed opens_a opens_b =
@@ -137,8 +110,7 @@ due_calls_are_taken dig rules events n call digest legal offers none rich =
     let kept : kept_links rules.tag log f.bundle ≡ Some f.kept.links =
     kept-some rules log f.bundle h.made h.coin ∙ ap (λ (l : Links). Some l) (sym h.shown) in
     let due : Has (due_of log f.account (record { links = f.kept.links })) call =
-    subst (λ (k : Option Links). Has (option_map_or
-    (λ (links : Links). due_of log f.account (record { links = links })) k []) call) kept f.due in
+    grind (arith, common_steps) in
     let coin : coin_of_call call ≡ f.bundle.coin =
     due_of-coin log f.account f.kept.links call due ∙ ap (λ (l : Links). l.coin) h.shown in
     let one = one_leaf dig digest log (coin_of_call call) (seen events (coin_of_call call)) none in

@@ -1,23 +1,8 @@
 -- One step back along the log: where a standing exit and its open challenges come from, and that the clock doesn't go
 -- back.
-use Rattle.std.proofs.Common.{◌≡◌, ◌⊎◌, ℕ, ◌≤◌, ◌==◌, ◌&&◌, not, Bool, true, false, if◌then◌else◌, List, [], ◌∷◌, ◌++◌, Some, None, inl, inr, refl, sym, ap, ◌∙◌, subst, arith, rules}
-use Rattle.std.specs.Prelude.{is_some, is_none}
-use Rattle.std.proofs.Math.Nat.{le_refl}
-use Rattle.std.proofs.lemmas.Bool.{eqb-true, eq-eqb, and_parts, and_from, not-true, true≢false, false_from_ne_true}
-use Rattle.std.proofs.lemmas.Grind.{common_steps}
-use Rattle.plasma_tx.specs.declared.opening.RawOpening.{RawOpening}
-use Rattle.plasma_tx.specs.declared.call.Shown.{Shown}
-use Rattle.plasma_tx.specs.declared.call.RootCall.{RootCall}
-use Rattle.plasma_tx.specs.declared.call.RootCall.TheVariants.{Fund, Tick, Deposit, Commit, StartDeposit, StartSpend, After, Between, Before, Respond, Finish}
-use Rattle.plasma_tx.specs.Views.{now, block_of, Challenge, Exit, is_exit, exits, exit_at, without_exit, challenge_at, with_challenge, with_answer, new_challenge}
-use Rattle.plasma_tx.specs.Laws.{is_start, is_end, is_respond}
-use Rattle.plasma_tx.specs.Shown.{Tests, Rules}
-use Rattle.plasma_tx.specs.Table.{is_accepted, answer_to}
-use Rattle.plasma_tx.proofs.Accepted.{accepted_calls_show}
-use Rattle.plasma_tx.proofs.RuleNames.{exits-distinct}
-use Rattle.watch_duty.proofs.Members.{Has, has-cases, has-filter, has-map, only-found}
-use Rattle.world_laws.specs.Looked.{is_before}
-use Rattle.world_laws.proofs.Lists.{some_same, exit-named}
+use Rattle.world_laws.proofs.Basics.{◌≡◌, ◌⊎◌, ℕ, ◌≤◌, ◌==◌, ◌&&◌, Bool, true, false, if◌then◌else◌, List, [], ◌∷◌, ◌++◌, Some, None, inl, inr, refl, ap, subst, arith, rules, sym, ◌∙◌, not, is_some, is_none, le_refl, eqb-true, eq-eqb, and_parts, and_from, not-true, true≢false, false_from_ne_true, common_steps, some_same, exit-named}
+use Rattle.world_laws.proofs.CoinWords.{RawOpening, Shown, RootCall, Fund, Tick, Deposit, Commit, StartDeposit, StartSpend, After, Between, Before, Respond, Finish, now, block_of, Challenge, Exit, is_exit, exits, exit_at, without_exit, challenge_at, with_challenge, with_answer, new_challenge, is_start, is_end, is_respond, Tests, Rules, is_accepted, answer_to, accepted_calls_show, exits-distinct, Has, has-cases, has-filter, has-map, only-found}
+use Rattle.world_laws.proofs.WorldWords.{is_before}
 use Rattle.world_laws.proofs.Watched.{is_none-push, is_none-answered}
 
 -- ---- an exit
@@ -88,8 +73,7 @@ none-at n (first ∷ rest) ch none (inr h) same =
 
 is_none-new : (n : ℕ) (chs : List Challenge) (new : Challenge) → new.block ≡ n
     → is_none (challenge_at n (chs ++ new ∷ [])) ≡ false
-is_none-new n [] new same =
-    ap (λ (b : Bool). is_none (if b then Some new else None)) (eq-eqb new.block n same)
+is_none-new n [] new same = ap (λ (b : Bool). is_none (if b then Some new else None)) (eq-eqb new.block n same)
 is_none-new n (first ∷ rest) new same = grind (arith, common_steps, is_none-new n rest new same)
 
 -- ---- one call
@@ -113,10 +97,7 @@ module _ (tests : Tests) (rules : Rules) (log : List RootCall) where
       → is_exit k f y ≡ true
       → StoodBefore log (Before account k f shown) (with_challenge (new_challenge log account k f shown) y)
   unfolding exit_at
-  challenged-before account k f shown is y there named =
-      subst (λ (b : Bool). StoodBefore log (Before account k f shown)
-      (if b then y else record y { challenges = y.challenges ++ new_challenge log account k f shown ∷ [] }))
-      (sym free) stood
+  challenged-before account k f shown is y there named = grind (arith, common_steps, free, stood)
     where
       free : is_some (challenge_at (block_of shown) y.challenges) ≡ false
       free =
@@ -129,12 +110,10 @@ module _ (tests : Tests) (rules : Rules) (log : List RootCall) where
       names = own-name k f y named
 
       made : (n : ℕ) → block_of shown ≡ n → is_before y.coin y.block n (Before account k f shown) ≡ true
-      made n same = and_from ((k == y.coin) && (f == y.block)) (block_of shown == n) names
-          (eq-eqb (block_of shown) n same)
+      made n same = grind (arith, common_steps, and_from, names, eq-eqb)
 
       at-block : (n : ℕ) → is_before y.coin y.block n (Before account k f shown) ≡ true → block_of shown ≡ n
-      at-block n on = eqb-true (block_of shown) n
-          (and_parts ((k == y.coin) && (f == y.block)) (block_of shown == n) on).1
+      at-block n on = grind (arith, common_steps, eqb-true, and_parts)
 
       from-open : (ch : Challenge) → Has y.challenges ch ⊎ Has (new_challenge log account k f shown ∷ []) ch
           → ch.answered ≡ false
@@ -142,16 +121,7 @@ module _ (tests : Tests) (rules : Rules) (log : List RootCall) where
           (record y { challenges = y.challenges ++ new_challenge log account k f shown ∷ [] }) ch
           ⊎ WasOpen (Before account k f shown)
           (record y { challenges = y.challenges ++ new_challenge log account k f shown ∷ [] }) y ch
-      from-open ch (inl has) unanswered = inr (record {
-        old = ch;
-        there = has;
-        block = refl;
-        at = refl;
-        unanswered = unanswered;
-        not_made = false_from_ne_true _
-            (λ on. none-at (block_of shown) y.challenges ch free has (at-block ch.block on));
-        not_answered = refl;
-      })
+      from-open ch (inl has) unanswered = grind (arith, common_steps, false_from_ne_true, none-at, free, at-block)
       from-open ch (inr (inl same)) unanswered = grind (arith, common_steps)
       from-open ch (inr (inr none)) unanswered = absurd none
 
@@ -192,24 +162,16 @@ module _ (tests : Tests) (rules : Rules) (log : List RootCall) where
   pub stood-before : (call : RootCall) → is_accepted (answer_to tests rules log call) ≡ true → (x : Exit)
       → Has (exits (call ∷ log)) x → IsNew log call x ⊎ StoodBefore log call x
   unfolding exits
-  stood-before (Fund account amount) is x h =
-      inr (still (Fund account amount) x h refl refl (λ n. refl) (λ n. refl))
+  stood-before (Fund account amount) is x h = inr (still (Fund account amount) x h refl refl (λ n. refl) (λ n. refl))
   stood-before (Tick time) is x h = inr (still (Tick time) x h refl refl (λ n. refl) (λ n. refl))
   stood-before (Deposit account amount key) is x h =
       inr (still (Deposit account amount key) x h refl refl (λ n. refl) (λ n. refl))
-  stood-before (Commit account root) is x h =
-      inr (still (Commit account root) x h refl refl (λ n. refl) (λ n. refl))
+  stood-before (Commit account root) is x h = inr (still (Commit account root) x h refl refl (λ n. refl) (λ n. refl))
   stood-before (StartDeposit account k block) is x h = grind (arith, has-cases, kept-other, still, and_from, eq-eqb)
   stood-before (StartSpend account k parent exit) is x h = grind (arith, has-cases, kept-other, still, and_from, eq-eqb)
-  stood-before (After account k f spend) is x h =
-      let r = kept-other k f x h in
-      inr (still (After account k f spend) x r.0 refl r.1 (λ n. refl) (λ n. refl))
-  stood-before (Between account k f spend) is x h =
-      let r = kept-other k f x h in
-      inr (still (Between account k f spend) x r.0 refl r.1 (λ n. refl) (λ n. refl))
-  stood-before (Finish account k f) is x h =
-      let r = kept-other k f x h in
-      inr (still (Finish account k f) x r.0 refl r.1 (λ n. refl) (λ n. refl))
+  stood-before (After account k f spend) is x h = grind (arith, common_steps, kept-other, still)
+  stood-before (Between account k f spend) is x h = grind (arith, common_steps, kept-other, still)
+  stood-before (Finish account k f) is x h = grind (arith, common_steps, kept-other, still)
   stood-before (Before account k f shown) is x h =
       let change : Exit → Exit = with_challenge (new_challenge log account k f shown) in
       let r = has-map (λ (exit : Exit). if is_exit k f exit then change exit else exit) (exits log) x h in
@@ -217,8 +179,7 @@ module _ (tests : Tests) (rules : Rules) (log : List RootCall) where
       ((elim (is_exit k f r.0) as (λ b. is_exit k f r.0 ≡ b
       → StoodBefore log (Before account k f shown) (if b then change r.0 else r.0)) [
         | true ↦ λ named. challenged-before account k f shown is r.0 r.1 named
-        | false ↦ λ other. still (Before account k f shown) r.0 r.1 refl refl
-            (λ n. ap (λ b. b && (block_of shown == n)) (other-name k f r.0 other)) (λ n. refl)
+        | false ↦ grind (arith, common_steps, still, other-name)
       ]) refl))
   stood-before (Respond account k f challenged spend) is x h =
       grind (arith, common_steps, has-map, answered-before, still, other-name)

@@ -1,24 +1,9 @@
 -- Small lists of events on which what they exhibit is computed, under digests that two strings share and under one
 -- that none do. A valid signature takes SHA-256, which isn't computed here: so no list here shows a forgery.
-use Rattle.std.proofs.Common.{◌≡◌, ℕ, ◌+◌, ◌&&◌, ◌||◌, not, Bool, true, false, List, [], ◌∷◌, ◌++◌, refl, ap, ◌∙◌}
-use Rattle.std.specs.Prelude.{slice_index_or}
-use Rattle.std.specs.List.{list_any}
-use Rattle.std.specs.Str.{bytes_eq}
-use Rattle.lms_sign.specs.Types.{height, chains, u32_at}
-use Rattle.sparse_merkle.specs.MaskedPath.{set_bits, siblings_in, proof_in, proof_path, lowest_default}
-use Rattle.sparse_merkle.specs.Opening.{hashed_string, hashed_strings}
-use Rattle.sparse_merkle.specs.TreeDigest.{subtree_digest}
-use Rattle.plasma_tx.specs.declared.opening.RawOpening.{RawOpening}
-use Rattle.plasma_tx.specs.declared.call.Shown.TheVariants.{Deposit as AtDeposit}
-use Rattle.plasma_tx.specs.declared.call.RootCall.{RootCall}
-use Rattle.plasma_tx.specs.declared.call.RootCall.TheVariants.{StartSpend}
-use Rattle.plasma_tx.specs.Spelling.{owner_text, body_text, owner_in, body_in, signed_in}
-use Rattle.plasma_tx.specs.Openings.{leaf_in, opening_in}
-use Rattle.plasma_tx.specs.Transfer.{transfer_in, is_signed_by}
+use Rattle.world_laws.proofs.Basics.{◌≡◌, ℕ, ◌+◌, ◌&&◌, ◌||◌, not, Bool, true, false, List, [], ◌∷◌, ◌++◌, refl, ap, ◌∙◌, slice_index_or, list_any, bytes_eq}
+use Rattle.world_laws.proofs.CoinWords.{height, chains, u32_at, set_bits, siblings_in, proof_in, proof_path, lowest_default, hashed_string, hashed_strings, subtree_digest, RawOpening, AtDeposit, RootCall, StartSpend, owner_text, body_text, owner_in, body_in, signed_in, leaf_in, opening_in, transfer_in, is_signed_by}
+use Rattle.world_laws.proofs.WorldWords.{Exhibit, Event, Joins, Bounces, Accepts, Guards, wallet_owner, wallets, bound_by, openings_of, coin_of, seen, strings_of, do_clash, has_clash, collides, all_strings, first_clash, is_forged, first_forgery, exhibit_of}
 use Rattle.lms_sign.specs.Valid.{is_valid}
-use Rattle.world_rules.specs.declared.verdict.Exhibit.{Exhibit}
-use Rattle.world_rules.specs.Events.{Event, Joins, Bounces, Accepts, Guards, wallet_owner, wallets, bound_by}
-use Rattle.world_rules.specs.Exhibits.{openings_of, coin_of, seen, strings_of, do_clash, has_clash, collides, all_strings, first_clash, is_forged, first_forgery, exhibit_of}
 use Rattle.world_laws.proofs.Samples.{tag, opened, watched_loss, shown_loss}
 use Rattle.world_laws.proofs.OwnExitSamples.{own_cancelled}
 
@@ -125,8 +110,7 @@ none-with string (other ∷ strings) =
 pub none-among : (strings : List (List ℕ)) → has_clash itself strings ≡ false
 unfolding has_clash
 none-among [] = refl
-none-among (string ∷ strings) =
-    ap (λ b. b || has_clash itself strings) (none-with string strings) ∙ none-among strings
+none-among (string ∷ strings) = ap (λ b. b || has_clash itself strings) (none-with string strings) ∙ none-among strings
 
 -- under a digest that no two strings share no events show a collision
 pub itself-never : (events : List Event) (c : ℕ) → collides itself events c ≡ false

@@ -1,21 +1,8 @@
 -- Where the events exhibit nothing, no coin's strings clash and no wallet's signature is forged.
-use Rattle.std.proofs.Common.{◌≡◌, ◌≢◌, ◌⊎◌, ℕ, ◌+◌, ◌==◌, not, Bool, true, false, if◌then◌else◌, List, [], ◌∷◌, ◌++◌, length, Option, Some, None, inl, inr, refl, sym, ap, ◌∙◌, subst, find, arith}
-use Rattle.std.specs.List.{list_any}
-use Rattle.std.specs.Option.{option_map, option_or}
-use Rattle.std.specs.Str.{bytes_eq}
-use Rattle.std.proofs.lemmas.Bool.{cases_eq, ne_eqb, eqb-true, and_parts, or_cases, or_from, not-true, true≢false, false≢true, false_from_ne_true}
-use Rattle.std.proofs.lemmas.Slice.Eq.{bytes_eq-Decides}
-use Rattle.std.proofs.lemmas.Grind.{common_steps}
-use Rattle.plasma_tx.specs.declared.owner.Owner.{Owner}
-use Rattle.plasma_tx.specs.declared.opening.RawOpening.{RawOpening}
-use Rattle.plasma_tx.specs.declared.call.RootCall.{RootCall}
-use Rattle.watch_duty.specs.Laws.{openings_of_call}
-use Rattle.watch_duty.proofs.Members.{Has, has-left, has-right, has-cases}
-use Rattle.world_rules.specs.declared.verdict.Exhibit.{Exhibit}
-use Rattle.world_rules.specs.Events.{Event, Declares, wallet_owner, wallets, bound_by, coin_of_call}
-use Rattle.world_rules.specs.Exhibits.{openings_of, coin_of, seen, strings_of, strings_shown, all_strings, do_clash, has_clash, clash_with, first_clash, forges_one, shows_forgery, is_forged, forges_some, first_forgery, exhibit_of}
-use Rattle.world_laws.proofs.Lists.{none_some, any-none, any-some}
-use Rattle.world_laws.proofs.Clash.{clash-from}
+use Rattle.world_laws.proofs.Basics.{◌≡◌, ◌≢◌, ◌⊎◌, ℕ, ◌+◌, ◌==◌, not, Bool, true, false, if◌then◌else◌, List, [], ◌∷◌, ◌++◌, length, Option, Some, None, inl, inr, refl, sym, ap, ◌∙◌, subst, find, arith, list_any, option_map, option_or, bytes_eq, cases_eq, ne_eqb, eqb-true, and_parts, or_cases, or_from, not-true, true≢false, false≢true, false_from_ne_true, bytes_eq-Decides, common_steps, none_some, any-none, any-some}
+use Rattle.world_laws.proofs.CoinWords.{Owner, RawOpening, RootCall, openings_of_call, Has, has-left, has-right, has-cases}
+use Rattle.world_laws.proofs.WorldWords.{Exhibit, Event, Declares, wallet_owner, wallets, bound_by, coin_of_call, openings_of, coin_of, seen, strings_of, strings_shown, all_strings, do_clash, has_clash, clash_with, first_clash, forges_one, shows_forgery, is_forged, forges_some, first_forgery, exhibit_of}
+use Rattle.world_laws.proofs.HeldCoins.{clash-from}
 use Rattle.world_laws.proofs.Before.{strings-append}
 
 pub or-none : {X : Type 0} (o p : Option X) → option_or o p ≡ None → (o ≡ None) × (p ≡ None)
@@ -88,8 +75,7 @@ module _ (dig : List ℕ → List ℕ) where
       elim hy [
         | inr later ↦ rest x y (push-has earlier ss s x hx) later differ same
         | inl is_y ↦ elim (has-cases earlier (s ∷ ss) x hx) [
-          | inl before ↦
-              grind (arith, find-none, mapped-none, true≢false, clash-from)
+          | inl before ↦ grind (arith, find-none, mapped-none, true≢false, clash-from)
           | inr behind ↦ elim behind [
             | inl is_x ↦ differ (sym is_x ∙ is_y)
             | inr later ↦ rest s x
@@ -114,8 +100,7 @@ module _ (dig : List ℕ → List ℕ) where
         | inl here ↦
             let r = any-some (do_clash dig s) ss here in
             record { one = s; other = r.0; is_one = inl refl; is_other = inr r.1; both = r.2 }
-        | inr later ↦
-            grind (arith, clashing ss later)
+        | inr later ↦ grind (arith, clashing ss later)
       ]
 
   pub no-clash : (events : List Event) (c : ℕ) → first_clash dig [] (all_strings dig events) ≡ None

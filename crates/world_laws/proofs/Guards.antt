@@ -1,34 +1,9 @@
 -- Who guards a held coin: the holder, and each watcher that keeps a guard at its tip.
-use Rattle.std.proofs.Common.{◌≡◌, ℕ, ◌==◌, true, false, if◌then◌else◌, List, [], ◌∷◌, Option, Some, None, inl, inr, refl, sym, ap, ◌∙◌, subst, arith, rules}
-use Rattle.std.specs.List.{list_any}
-use Rattle.std.proofs.lemmas.Bool.{eqb-true, and_from, or_cases, or_left, or_right, not_from_false}
-use Rattle.std.proofs.lemmas.Grind.{common_steps}
-use Rattle.plasma_tx.specs.declared.owner.Owner.{Owner}
-use Rattle.plasma_tx.specs.declared.opening.RawOpening.{RawOpening}
-use Rattle.plasma_tx.specs.declared.links.Links.{Links}
-use Rattle.plasma_tx.specs.declared.call.RootCall.{RootCall}
-use Rattle.plasma_tx.specs.declared.views.CoinView.{CoinView}
-use Rattle.plasma_tx.specs.declared.views.ExitView.{ExitView}
-use Rattle.plasma_tx.specs.Links.{tip_of, last_owner_of}
-use Rattle.plasma_tx.specs.Views.{coin_at, exits_of, block_of}
-use Rattle.plasma_tx.specs.Shown.{Tests, Rules}
-use Rattle.coin_history.specs.declared.bundle.Bundle.{Bundle}
-use Rattle.coin_history.specs.History.{links_in, links_of, IsHistory}
-use Rattle.coin_history.proofs.HistoryLinks.{tip-is, tip_from, none-linked}
-use Rattle.node_rules.specs.Kept.{chain_of, kept_links}
-use Rattle.watch_duty.specs.Duty.{tip_shown, due_for, due_of}
-use Rattle.watch_duty.proofs.Members.{Has, contains-has, has-contains, has-flat_map, has-filter}
-use Rattle.watch_duty.proofs.Dues.{IsDue as IsDueFor, due_for-due}
-use Rattle.world_rules.specs.Events.{Event, Watches, Guards, Releases, log_of, coin_of_call, wallet_owner, accepted, is_bundle, guarded_by, is_command_of}
-use Rattle.world_rules.specs.Exhibits.{seen, is_forged}
-use Rattle.world_rules.specs.Safety.{was_deposited, holds}
-use Rattle.world_laws.specs.Legal.{Taken, Bare, IsGuarding, ShowsGuard, IsLegal}
-use Rattle.world_laws.specs.Looked.{is_guardian}
-use Rattle.world_laws.proofs.Histories.{links-at, shown-tip}
-use Rattle.world_laws.proofs.Lists.{some_same, any-some}
-use Rattle.world_laws.proofs.Clash.{HasOneLeaf}
-use Rattle.world_laws.proofs.Bound.{SignsBy, Holding, is_noted, is_kept}
-use Rattle.world_laws.proofs.Held.{known-from, IsGoodGuard, good_guard, held_top, deposited-coin, empty-walk}
+use Rattle.world_laws.proofs.Basics.{◌≡◌, ℕ, ◌==◌, true, false, if◌then◌else◌, List, [], ◌∷◌, Option, Some, None, inl, inr, refl, sym, ap, ◌∙◌, subst, arith, rules, list_any, eqb-true, and_from, or_cases, or_left, or_right, not_from_false, common_steps, some_same, any-some}
+use Rattle.world_laws.proofs.CoinWords.{Owner, RawOpening, Links, RootCall, CoinView, ExitView, tip_of, last_owner_of, coin_at, block_of, exits_of, Tests, Rules, Bundle, links_in, links_of, IsHistory, tip-is, tip_from, none-linked, tip_shown, due_of, due_for, Has, contains-has, has-contains, has-flat_map, has-filter, IsDueFor, due_for-due}
+use Rattle.world_laws.proofs.NodeWords.{chain_of, kept_links}
+use Rattle.world_laws.proofs.WorldWords.{Event, Watches, Guards, Releases, log_of, coin_of_call, wallet_owner, accepted, is_bundle, guarded_by, is_command_of, seen, is_forged, was_deposited, holds, Taken, Bare, IsGuarding, ShowsGuard, IsLegal, is_guardian}
+use Rattle.world_laws.proofs.HeldCoins.{links-at, shown-tip, HasOneLeaf, SignsBy, Holding, is_noted, is_kept, known-from, IsGoodGuard, good_guard, held_top, deposited-coin, empty-walk}
 use Rattle.world_laws.proofs.Nodes.{owner-same}
 use Rattle.world_laws.proofs.DueCalls.{OffersDue}
 

@@ -1,40 +1,16 @@
 -- What a watcher's records keep is shown by a bundle that events say it guards: one of the same coin and tip, with the
 -- same links.
-use Rattle.std.proofs.Common.{◌≡◌, ◌⊎◌, ℕ, not, Bool, true, false, if◌then◌else◌, cond, ◌^◌, ◌<◌, List, [], ◌∷◌, filter, Option, Some, None, Ok, Err, inl, inr, refl, sym, ap, ◌∙◌, subst, lit<, arith}
-use Rattle.std.specs.Prelude.{Result, IfSome}
-use Rattle.std.specs.List.{list_any}
-use Rattle.std.proofs.lemmas.Bool.{false≢true}
-use Rattle.std.proofs.lemmas.Grind.{common_steps}
-use Rattle.node_journal.specs.Effect.{Effect, first_cause, unless, only}
-use Rattle.plasma_tx.specs.declared.links.Links.{Links}
-use Rattle.plasma_tx.specs.declared.call.RootCall.{RootCall}
-use Rattle.plasma_tx.specs.Links.{tip_of}
-use Rattle.coin_history.specs.declared.bundle.Bundle.{Bundle}
-use Rattle.coin_history.specs.declared.refusal.HistoryRefusal.{HistoryRefusal}
-use Rattle.coin_history.specs.History.{links_in}
-use Rattle.node_rules.specs.declared.answers.Accepted.{Accepted}
+use Rattle.world_laws.proofs.Basics.{◌≡◌, ◌⊎◌, ℕ, not, Bool, true, false, if◌then◌else◌, ◌^◌, ◌<◌, List, [], ◌∷◌, filter, Option, Some, Ok, Err, inl, inr, sym, ◌∙◌, subst, lit<, arith, Result, IfSome, list_any, false≢true, common_steps, has-kept}
+use Rattle.world_laws.proofs.CoinWords.{Links, RootCall, Bundle, links_in, Has, has-cases, has-filter}
+use Rattle.world_laws.proofs.NodeWords.{Effect, only, Accepted, chain_of, kept_of, links_handed, IsReadBack, Guarded, Released, who_is, is_of, with_guard, guards_of, guards_in, guard_effect, release_effect, AddsGuard, NodeOrder, with_record, on_guarded, on_released, watcher_does, Small, small-nil}
+use Rattle.world_laws.proofs.WorldWords.{Event, Guards, Releases, is_bundle, Node, World, is_watcher_role, node_does, bundle_read, event_of, watcher_told, Deed, as_deed, Said, told, IsFitOrder, watcher-alone, has_order}
 use Rattle.node_rules.specs.declared.refusal.WatcherRefusal.{WatcherRefusal}
 use Rattle.node_rules.specs.declared.refusal.WatcherRefusal.TheVariants.{NoGuard}
-use Rattle.node_rules.specs.Kept.{chain_of, kept_of, links_handed}
-use Rattle.node_rules.specs.Laws.{IsReadBack}
-use Rattle.node_rules.specs.Watcher.{Guarded, Released, note_text, who_is, is_of, with_guard, guards_of, guards_in, guard_causes, guard_by, guard_effect, release_effect}
-use Rattle.node_rules.specs.WatcherLaws.{AddsNote, AddsGuard}
+use Rattle.node_rules.specs.Watcher.{note_text}
+use Rattle.node_rules.specs.WatcherLaws.{AddsNote}
 use Rattle.node_rules.proofs.WatcherRole.{commands_add_their_notes}
-use Rattle.watch_duty.proofs.Members.{Has, has-cases, has-filter}
-use Rattle.world_rules.specs.Events.{Event, Guards, Releases, is_bundle}
-use Rattle.world_rules.specs.World.{Node, World, is_watcher_role}
-use Rattle.node_replies.specs.declared.order.NodeOrder.{NodeOrder}
 use Rattle.node_replies.specs.declared.order.WatcherOrder.{WatcherOrder}
-use Rattle.node_replies.specs.Orders.{with_record, on_guarded, on_released, watcher_does}
-use Rattle.world_rules.specs.Orders.{node_does}
-use Rattle.world_rules.specs.OrderEvents.{bundle_read, event_of}
-use Rattle.world_rules.proofs.OrderEnds.{watcher_told}
-use Rattle.world_rules.specs.Deeds.{Deed, as_deed}
-use Rattle.node_replies.proofs.ByteTexts.{Small, small-nil}
-use Rattle.world_rules.proofs.Said.{Said, told}
-use Rattle.world_rules.proofs.KeptWatcher.{KeptWatcher}
-use Rattle.world_rules.proofs.KeptNode.{IsFitOrder, watcher-alone}
-use Rattle.world_rules.specs.Evidence.{has_order}
+use Rattle.world_rules.proofs.KeptWatcher.{KeptWatcher, GuardEnds, Refused, Known, New, guard_ends}
 use Rattle.world_laws.proofs.Handed.{handed-history}
 
 -- a bundle shows a kept coin: it is of the coin and the tip, and has the links
@@ -55,12 +31,6 @@ has-guard : (kept : Bundle) (guards : List Bundle) (other : Bundle) → Has (wit
     → (kept ≡ other) ⊎ Has guards other
 has-guard kept guards other h = grind (arith, common_steps, has-cases, has-filter)
 
-filter-has : {X : Type 0} (p : X → Bool) (xs : List X) (x : X) → Has xs x → p x ≡ true → Has (filter p xs) x
-filter-has p [] x h passes = absurd h
-filter-has p (y ∷ ys) x (inl same) passes =
-    subst (λ b. Has (cond b (y ∷ filter p ys) (filter p ys)) x) (sym (ap p same ∙ passes)) (inl same)
-filter-has p (y ∷ ys) x (inr h) passes = grind (arith, common_steps, filter-has p ys x h passes)
-
 -- one more bundle shows no less
 pub shown-more : (tag : List ℕ) (bundle : Bundle) (bundles guards : List Bundle) → AreShown tag bundles guards
     → AreShown tag (bundle ∷ bundles) guards
@@ -70,7 +40,7 @@ shown-more tag bundle bundles guards shown kept has = grind (arith, common_steps
 shown-released : (tag : List ℕ) (c e : ℕ) (bundles guards : List Bundle) → AreShown tag bundles guards
     → AreShown tag (filter (λ bundle. not (is_bundle c e bundle)) bundles)
     (filter (λ kept. not (is_of c e kept)) guards)
-shown-released tag c e bundles guards shown kept has = grind (arith, common_steps, has-filter, filter-has)
+shown-released tag c e bundles guards shown kept has = grind (arith, common_steps, has-filter, has-kept)
 
 -- ---- a watcher's commands
 
@@ -79,25 +49,12 @@ pub handed-shown : (dig : List ℕ → List ℕ) (tag : List ℕ) (log : List Ro
     (bundles : List Bundle) → links_handed dig tag log bytes ≡ Ok links → IsReadBack dig tag log links
     → IsShown tag (bundle_read bytes ∷ bundles) (kept_of links)
 handed-shown dig tag log bytes links bundles handed back =
-    let history = handed-history dig (chain_of tag) log bytes links handed in record {
-      bundle = bundle_read bytes;
-      has = inl refl;
-      coin = ap (λ (l : Links). l.coin) (sym history.shown);
-      tip = sym history.tip;
-      links = ap (λ (l : Links). l.spends) (sym history.shown) ∙ sym back.shown;
-    }
+    let history = handed-history dig (chain_of tag) log bytes links handed in grind (arith, common_steps)
 
 -- the release of a guard that is there, or isn't
 abbrev releasing : ℕ → ℕ → Bool → Effect (Result (Unit {0}) WatcherRefusal)
 releasing c e has =
     if has then record { answer = Ok tt; note = Some (note_text (Released c e)) } else only (Err NoGuard)
-
--- the guard of links that aren't refused, which may be known
-abbrev guarding : Links → Bool → Effect (Result Accepted WatcherRefusal)
-guarding links known = record {
-  answer = Ok (record { coin = links.coin; tip = tip_of links });
-  note = if known then None else Some (note_text (Guarded (kept_of links)));
-}
 
 module _ (dig : List ℕ → List ℕ) (tag : List ℕ) (s : Said) (log : List RootCall) (records : List (List ℕ))
     (kept : KeptWatcher dig s records) (tag_is : (who_is records).tag ≡ tag)
@@ -119,37 +76,28 @@ module _ (dig : List ℕ → List ℕ) (tag : List ℕ) (s : Said) (log : List R
             subst (IsShown tag (bundle_read bytes ∷ s.guarded)) same
             (subst (λ t. IsShown t (bundle_read bytes ∷ s.guarded) (kept_of links)) tag_is
             (handed-shown dig (who_is records).tag log bytes links s.guarded handed back))
-        | inr old ↦
-            shown-more tag (bundle_read bytes) s.guarded (guards_in dig records) shown other old
+        | inr old ↦ shown-more tag (bundle_read bytes) s.guarded (guards_in dig records) shown other old
       ]
 
   abbrev IsGuarded : ℕ → List ℕ → Effect (Result Accepted WatcherRefusal) → Type 0
-  IsGuarded n bytes effect =
-      IsAfter (watcher_told n (WatcherOrder.Guard bytes) on_guarded effect.answer) effect.note
+  IsGuarded n bytes effect = IsAfter (watcher_told n (WatcherOrder.Guard bytes) on_guarded effect.answer) effect.note
 
   pub guard-shown : (n : ℕ) (bytes : List ℕ) → Small bytes → IsGuarded n bytes (guard_effect dig records log bytes)
-  unfolding guard_effect event_of
-  guard-shown n bytes small =
-      at (links_handed dig (who_is records).tag log bytes) refl
-      (commands_add_their_notes dig records log bytes 0 0 kept.is small.are (lit< tt) (lit< tt)).0
+  unfolding event_of
+  guard-shown n bytes small = by (guard_ends dig records log bytes)
     where
-      by : (links : Links) → links_handed dig (who_is records).tag log bytes ≡ Ok links
-          → (failed : Option WatcherRefusal) (known : Bool)
-          → IfSome (unless failed (guarding links known)).note (AddsGuard dig records log bytes)
-          → IsGuarded n bytes (unless failed (guarding links known))
-      by links handed (Some why) known adds = shown
-      by links handed None true adds = shown-more tag (bundle_read bytes) s.guarded (guards_in dig records) shown
-      by links handed None false adds =
-          guard-new n bytes (note_text (Guarded (kept_of links))) adds.0 adds.1 adds.2
-          adds.3
-
-      at : (handed : Result Links HistoryRefusal) → links_handed dig (who_is records).tag log bytes ≡ handed
-          → IfSome (guard_by log (guards_in dig records) handed).note (AddsGuard dig records log bytes)
-          → IsGuarded n bytes (guard_by log (guards_in dig records) handed)
-      at (Err why) handed adds = shown
-      at (Ok links) handed adds =
-          by links handed (first_cause (guard_causes log links))
-          (list_any (is_of links.coin (tip_of links)) (guards_in dig records)) adds
+      by : GuardEnds dig records log bytes (guard_effect dig records log bytes)
+          → IsGuarded n bytes (guard_effect dig records log bytes)
+      by (Refused why is) = subst (IsGuarded n bytes) (sym is) shown
+      by (Known links handed known is) =
+          subst (IsGuarded n bytes) (sym is)
+          (shown-more tag (bundle_read bytes) s.guarded (guards_in dig records) shown)
+      by (New links handed is) =
+          let text = note_text (Guarded (kept_of links)) in
+          let adds : AddsGuard dig records log bytes text =
+          subst (λ e. IfSome e.note (AddsGuard dig records log bytes)) is
+          (commands_add_their_notes dig records log bytes 0 0 kept.is small.are (lit< tt) (lit< tt)).0 in
+          subst (IsGuarded n bytes) (sym is) (guard-new n bytes text adds.0 adds.1 adds.2 adds.3)
 
   release-new : (n c e : ℕ) (body : List ℕ) → AddsNote dig records (Released c e) body
       → IsAfter (Releases n c e) (Some body)
@@ -159,8 +107,7 @@ module _ (dig : List ℕ → List ℕ) (tag : List ℕ) (s : Said) (log : List R
       (sym adds.1) (shown-released tag c e s.guarded (guards_in dig records) shown)
 
   abbrev IsReleased : ℕ → ℕ → ℕ → Effect (Result (Unit {0}) WatcherRefusal) → Type 0
-  IsReleased n c e effect =
-      IsAfter (watcher_told n (WatcherOrder.Release c e) on_released effect.answer) effect.note
+  IsReleased n c e effect = IsAfter (watcher_told n (WatcherOrder.Release c e) on_released effect.answer) effect.note
 
   pub release-shown : (n c e : ℕ) → c < 2 ^ 64 → e < 2 ^ 64 → IsReleased n c e (release_effect dig records c e)
   unfolding release_effect event_of

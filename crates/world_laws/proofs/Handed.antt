@@ -1,22 +1,11 @@
 -- A bundle that is handed in and passes is a history under the chain's rules, whatever its bytes are.
-use Rattle.std.proofs.Common.{◌≡◌, ℕ, ◌≤◌, List, [], length, Ok, Err, inl, inr, refl, sym, ap, ◌∙◌, subst, arith, rules}
-use Rattle.std.specs.Prelude.{Result, unwrap_or}
-use Rattle.std.specs.Result.{result_ok}
-use Rattle.std.proofs.lemmas.Bool.{cases_lt, lt-ltb, le-ltb}
-use Rattle.plasma_tx.specs.declared.links.Links.{Links}
-use Rattle.plasma_tx.specs.declared.call.RootCall.{RootCall}
-use Rattle.plasma_tx.specs.Shown.{tests_by, Rules}
-use Rattle.coin_history.specs.declared.bundle.Bundle.{Bundle}
+use Rattle.world_laws.proofs.Basics.{◌≡◌, ℕ, ◌≤◌, List, [], length, Ok, Err, inl, inr, refl, sym, ap, ◌∙◌, subst, arith, rules, Result, unwrap_or, result_ok, cases_lt, lt-ltb, le-ltb}
+use Rattle.world_laws.proofs.CoinWords.{Links, RootCall, tests_by, Rules, Bundle, Items, AreRising, length_at, items_in, bundle_of, bundle_in, IsHistory, items_in-ok, tagged-same, histories_are_found}
+use Rattle.world_laws.proofs.NodeWords.{links_handed}
+use Rattle.world_laws.proofs.WorldWords.{bundle_read}
 use Rattle.coin_history.specs.declared.refusal.HistoryRefusal.{HistoryRefusal}
 use Rattle.coin_history.specs.declared.refusal.HistoryRefusal.TheVariants.{BadBundle}
-use Rattle.coin_history.specs.Bundles.{Items, AreRising, length_at, items_in, bundle_of, bundle_in}
-use Rattle.coin_history.specs.History.{IsHistory}
-use Rattle.coin_history.proofs.BundleLaws.{items_in-ok}
-use Rattle.coin_history.proofs.CheckFacts.{tagged-same}
-use Rattle.coin_history.proofs.HistoryFound.{histories_are_found}
-use Rattle.node_rules.specs.Kept.{links_handed}
 use Rattle.node_rules.proofs.KeptTexts.{handed-bundle}
-use Rattle.world_rules.specs.OrderEvents.{bundle_read}
 
 abbrev as_read : Bundle → Result Bundle HistoryRefusal
 as_read bundle = Ok bundle
@@ -34,11 +23,9 @@ unfolding bundle_in
 read-rising bytes bundle h = elim (cases_lt (length bytes) 8) [
   | inl short ↦ let bad : Err (BadBundle 0) ≡ Ok bundle = rw (lt-ltb (length bytes) 8 short) at h in absurd (cc bad)
   | inr coin ↦ elim (cases_lt (length bytes) 16) [
-    | inl short ↦
-        grind (arith, le-ltb, lt-ltb)
+    | inl short ↦ grind (arith, le-ltb, lt-ltb)
     | inr tip ↦ elim (cases_lt (length bytes) 20) [
-      | inl short ↦
-          grind (arith, le-ltb, lt-ltb)
+      | inl short ↦ grind (arith, le-ltb, lt-ltb)
       | inr long ↦
           let read : bundle_of bytes (items_in bytes 20 0 (length_at bytes 16)) ≡ Ok bundle = grind (arith, le-ltb) in
           items-rise bytes bundle (items_in bytes 20 0 (length_at bytes 16)) long refl read

@@ -1,48 +1,43 @@
 -- No event harms a held coin.
-use Rattle.std.proofs.Common.{◌≡◌, ℕ, ◌+◌, ◌≤◌, ◌==◌, ◌&&◌, not, Bool, true, false, List, [], ◌∷◌, Option, Some, None, inl, refl, sym, ◌∙◌, subst, arith, rules}
-use Rattle.std.specs.Prelude.{is_none, nat_lt, nat_le}
-use Rattle.std.specs.List.{AllByRecursion, list_all}
-use Rattle.std.proofs.lemmas.Bool.{cases_Bool, eqb-true, le-ltb, ltb-false, leb-true, and_parts, and_from, not-true, not_from_false, true≢false, false_from_ne_true}
-use Rattle.std.proofs.lemmas.Grind.{common_steps}
-use Rattle.plasma_tx.specs.declared.opening.RawOpening.{RawOpening}
-use Rattle.plasma_tx.specs.declared.call.RootCall.{RootCall}
-use Rattle.plasma_tx.specs.declared.call.RootCall.TheVariants.{After, Between, Finish}
-use Rattle.plasma_tx.specs.declared.answer.Answer.{Answer}
-use Rattle.plasma_tx.specs.Views.{now, Challenge, Exit, exits, exit_at, challenge_at, is_withdrawn}
-use Rattle.plasma_tx.specs.declared.rules.TheConstants.{EXIT_PERIOD}
-use Rattle.plasma_tx.specs.Shown.{Tests, Rules}
-use Rattle.plasma_tx.specs.Table.{decided, finish_causes, finish_effect, is_payable, where_exit, answer_to, is_accepted}
-use Rattle.plasma_tx.specs.Accepted.{CancelsAfter, CancelsBetween}
-use Rattle.plasma_tx.specs.RuleLaws.{is_paid}
-use Rattle.plasma_tx.proofs.Accepted.{accepted_calls_show}
-use Rattle.watch_duty.specs.Laws.{openings_of_call}
-use Rattle.watch_duty.proofs.Members.{Has, all-has}
-use Rattle.world_rules.specs.Events.{Event, log_of, wallet_owner, bound_by}
-use Rattle.world_rules.specs.Exhibits.{seen, forges_one}
-use Rattle.world_rules.specs.Safety.{is_mine, is_own, finish_harms, call_harms}
-use Rattle.world_laws.specs.Legal.{IsLegal}
-use Rattle.world_laws.proofs.Lists.{all-from, found-has, challenge-has, all_answered-from, passes-has}
-use Rattle.world_laws.proofs.Walk.{Spent, walk-order}
-use Rattle.world_laws.proofs.Histories.{place_of}
-use Rattle.world_laws.proofs.Shown.{Deposited, Transferred, IsBegun, OfDeposit, OfSpend}
-use Rattle.world_laws.proofs.Bound.{SignsBy}
-use Rattle.world_laws.proofs.Held.{Known, shown-ge, link_in}
-use Rattle.world_laws.specs.Invariant.{IsWatched, IfOf, AllWatched}
+use Rattle.world_laws.proofs.Basics.{◌≡◌, ℕ, ◌+◌, ◌==◌, ◌&&◌, not, Bool, true, false, List, [], ◌∷◌, Option, Some, None, inl, refl, ◌∙◌, subst, arith, rules, is_none, nat_lt, nat_le, AllByRecursion, list_all, cases_Bool, eqb-true, le-ltb, ltb-false, leb-true, and_parts, and_from, not-true, not_from_false, true≢false, false_from_ne_true, common_steps, all-from, found-has, challenge-has, all_answered-from, passes-has}
+use Rattle.world_laws.proofs.CoinWords.{RawOpening, RootCall, After, Between, Finish, Answer, now, Challenge, Exit, exits, exit_at, challenge_at, EXIT_PERIOD, Tests, Rules, decided, finish_causes, finish_effect, is_payable, where_exit, answer_to, is_accepted, CancelsAfter, CancelsBetween, is_paid, accepted_calls_show, openings_of_call, Has, all-has, Owner}
+use Rattle.world_laws.proofs.WorldWords.{Event, log_of, wallet_owner, bound_by, seen, forges_one, is_mine, is_own, finish_harms, call_harms, IsLegal, IsWatched, AllWatched, IfOf}
+use Rattle.world_laws.proofs.HeldCoins.{Spent, walk-order, place_of, Deposited, Transferred, IsBegun, OfDeposit, OfSpend, SignsBy, Known, shown-ge, link_in}
 use Rattle.world_laws.proofs.Watched.{IsSpend, is_spend, AtEvent, tip_unspent}
 use Rattle.world_laws.proofs.Steps.{OfHeld, of_held, owner-before, own-openings}
 
 -- the answer to a Finish of what was found
-abbrev finish_answer : List RootCall → ℕ → Option Exit → Answer
+abbrev pub finish_answer : List RootCall → ℕ → Option Exit → Answer
 finish_answer log c found = where_exit found (λ exit. decided (finish_causes log exit) (finish_effect log c exit))
 
 -- it is Paid where the exit's period is over and the exit payable
-finish-paid : (log : List RootCall) (c : ℕ) (x : Exit)
+pub finish-paid : (log : List RootCall) (c : ℕ) (x : Exit)
     → is_paid (finish_answer log c (Some x)) ≡ (not (nat_lt (now log) (x.start + EXIT_PERIOD)) && is_payable log c x)
 finish-paid log c x = grind (arith, common_steps)
 
+four-false : (a b d g : Bool) → (a ≡ true → b ≡ true → g ≡ true → ⊥) → (a && b && d && g) ≡ false
+four-false a b d g never = grind (arith, common_steps, false_from_ne_true, and_parts)
+
+and-off : (x z : Bool) → (x ≡ true → z ≡ false) → (x && z) ≡ false
+and-off x z h = grind (arith, common_steps)
+
+-- no Finish of the coin harms the holder
+abbrev pub FinishesHarmNothing : List Event → ℕ → ℕ → Owner → Type 0
+FinishesHarmNothing events c e me = (k f : ℕ) → k ≡ c → (o : Option Exit) → exit_at (log_of events) k f ≡ o
+    → finish_harms me e (now (log_of events)) (finish_answer (log_of events) k o) o ≡ false
+
+-- challenges aren't all answered where one at the tip stands and those there are open
+pub not-settled : (e : ℕ) (chs : List Challenge) → AllByRecursion (λ ch. ch.block ≡ e → ch.answered ≡ false) chs
+    → is_none (challenge_at e chs) ≡ false → list_all (λ ch. ch.answered) chs ≡ true → ⊥
+not-settled e chs open_tip there answered =
+    (elim (challenge_at e chs) as (λ o. challenge_at e chs ≡ o → is_none o ≡ false → ⊥) [
+      | None ↦ λ is no. true≢false no
+      | Some ch ↦ λ is no.
+          let h = challenge-has e chs ch is in grind (arith, common_steps, true≢false, passes-has, all-has)
+    ]) refl there
+
 module _ (tests : Tests) (rules : Rules) (signs : SignsBy tests) (events : List Event) (w c e : ℕ)
-    (legal : IsLegal tests rules events) (more : List RawOpening) (at : AtEvent tests rules events w c e more)
-    (all : AllWatched c at.hold.me e (now (log_of events)) (exits (log_of events))) where
+    (legal : IsLegal tests rules events) (more : List RawOpening) (at : AtEvent tests rules events w c e more) where
   owner-of : (x : Exit) → OfHeld tests rules events c at.held.made x → x.block ≡ e → x.owner ≡ at.hold.me
   owner-of x of at_tip = by_begun of.begun
     where
@@ -94,9 +89,7 @@ module _ (tests : Tests) (rules : Rules) (signs : SignsBy tests) (events : List 
           let d = shown-ge tests rules log (seen events c) c at.held.made at.one_before is.exit.parent
           is.exit.parent_owner shown in
           let spent : IsSpend tests rules log c spend is.exit.parent is.exit.parent_owner =
-          subst (λ z. IsSpend tests rules log z spend is.exit.parent is.exit.parent_owner) c_is
-          (is_spend tests rules log k spend is.tx is.exit.parent is.exit.parent_owner is.shown is.child is.later
-          is.signed) in
+          grind (arith, common_steps, is_spend) in
           let here = own-openings k c (spend ∷ []) spend c_is (inl refl) in
           let mid : Spent rules c more spend.block spent.tx.body.to = grind (arith) in
           let top : Spent rules c more is.exit.block is.exit.owner = grind (arith) in
@@ -110,6 +103,34 @@ module _ (tests : Tests) (rules : Rules) (signs : SignsBy tests) (events : List 
           q.2 (omega (arith, p.3, q.3, is.earlier)) in
           absurd (omega (arith, order, p.3, parent, is.later))
 
+  -- an accepted call
+  pub call-harmless : FinishesHarmNothing events c e at.hold.me → (call : RootCall) → ((o : RawOpening) → Has (openings_of_call c call) o → Has more o)
+      → forges_one rules.tag (wallet_owner events w) (bound_by events w) c (openings_of_call c call) ≡ false
+      → call_harms tests rules (log_of events) at.hold.me c e call ≡ false
+  unfolding call_harms answer_to
+  call-harmless finish (After account k f spend) has none =
+      four-false (k == c) (f == e) (is_own at.hold.me (exit_at (log_of events) k f))
+      (is_accepted (answer_to tests rules (log_of events) (After account k f spend)))
+      (λ same tip is. after-harmless account k f spend has none (eqb-true k c same) (eqb-true f e tip)
+      (accepted_calls_show tests rules (log_of events) (After account k f spend) is))
+  call-harmless finish (Between account k f spend) has none =
+      four-false (k == c) (f == e) (is_own at.hold.me (exit_at (log_of events) k f))
+      (is_accepted (answer_to tests rules (log_of events) (Between account k f spend)))
+      (λ same tip is. between-harmless account k f spend has (eqb-true k c same) (eqb-true f e tip)
+      (accepted_calls_show tests rules (log_of events) (Between account k f spend) is))
+  call-harmless finish (Finish account k f) has none =
+      and-off (k == c) _ (λ same. finish k f (eqb-true k c same) (exit_at (log_of events) k f) refl)
+  call-harmless finish call has none = refl
+
+  -- a refused call
+  pub refused-harmless : FinishesHarmNothing events c e at.hold.me → (call : RootCall) → is_accepted (answer_to tests rules (log_of events) call) ≡ false
+      → call_harms tests rules (log_of events) at.hold.me c e call ≡ false
+  unfolding call_harms answer_to
+  refused-harmless finish call off = grind (arith, common_steps, four-false, true≢false, and-off, finish, eqb-true)
+
+module _ (tests : Tests) (rules : Rules) (signs : SignsBy tests) (events : List Event) (w c e : ℕ)
+    (legal : IsLegal tests rules events) (more : List RawOpening) (at : AtEvent tests rules events w c e more)
+    (all : AllWatched c at.hold.me e (now (log_of events)) (exits (log_of events))) where
   -- what is known of an exit of the coin that a Finish names
   record IsFinished (k : ℕ) (x : Exit) : Type 0 where
     watched : IsWatched at.hold.me e (now (log_of events)) x
@@ -150,62 +171,10 @@ module _ (tests : Tests) (rules : Rules) (signs : SignsBy tests) (events : List 
   -- and another account's never is
   others-unpaid : (k : ℕ) (x : Exit) → IsFinished k x → is_mine at.hold.me x ≡ false
       → is_paid (finish_answer (log_of events) k (Some x)) ≡ true → ⊥
-  others-unpaid k x i other pays =
-      let time : ℕ = now (log_of events) in
-      let parts = and_parts (not (nat_lt time (x.start + EXIT_PERIOD))) (is_payable (log_of events) k x)
-      (sym i.paid ∙ pays) in
-      let over : x.start + EXIT_PERIOD ≤ time = ltb-false _ _ (not-true _ parts.0) in
-      let there = i.watched.in_time other (omega (arith, over)) in
-      contradiction x.challenges i.watched.open_tip there
-      (and_parts (list_all (λ (ch : Challenge). ch.answered) x.challenges) (not (is_withdrawn (log_of events) k))
-      parts.1).0
-    where
-      contradiction : (chs : List Challenge) → AllByRecursion (λ ch. ch.block ≡ e → ch.answered ≡ false) chs
-          → is_none (challenge_at e chs) ≡ false → list_all (λ ch. ch.answered) chs ≡ true → ⊥
-      contradiction chs open_tip there answered =
-          (elim (challenge_at e chs) as (λ o. challenge_at e chs ≡ o → is_none o ≡ false → ⊥) [
-            | None ↦ λ is no. true≢false no
-            | Some ch ↦ λ is no.
-                let h = challenge-has e chs ch is in
-                true≢false (sym (passes-has (λ (x : Challenge). x.answered) chs ch answered h.0)
-                ∙ all-has (λ (z : Challenge). z.block ≡ e → z.answered ≡ false) chs ch open_tip h.0 h.1)
-          ]) refl there
+  others-unpaid k x i other pays = grind (arith, common_steps, and_parts, ltb-false, not-true, not-settled)
 
   -- so a finish harms nothing
-  finish-harmless : (k f : ℕ) → k ≡ c → (o : Option Exit) → exit_at (log_of events) k f ≡ o
-      → finish_harms at.hold.me e (now (log_of events)) (finish_answer (log_of events) k o) o ≡ false
+  pub finish-harmless : FinishesHarmNothing events c e at.hold.me
   finish-harmless k f c_is None found = refl
   finish-harmless k f c_is (Some x) found =
       grind (arith, common_steps, finished, cases_Bool, false_from_ne_true, own-paid, others-unpaid)
-
-  four-false : (a b d g : Bool) → (a ≡ true → b ≡ true → g ≡ true → ⊥) → (a && b && d && g) ≡ false
-  four-false a b d g never = grind (arith, common_steps, false_from_ne_true, and_parts)
-
-  and-off : (x z : Bool) → (x ≡ true → z ≡ false) → (x && z) ≡ false
-  and-off true z h = h refl
-  and-off false z h = refl
-
-  -- an accepted call
-  pub call-harmless : (call : RootCall) → ((o : RawOpening) → Has (openings_of_call c call) o → Has more o)
-      → forges_one rules.tag (wallet_owner events w) (bound_by events w) c (openings_of_call c call) ≡ false
-      → call_harms tests rules (log_of events) at.hold.me c e call ≡ false
-  unfolding call_harms answer_to
-  call-harmless (After account k f spend) has none =
-      four-false (k == c) (f == e) (is_own at.hold.me (exit_at (log_of events) k f))
-      (is_accepted (answer_to tests rules (log_of events) (After account k f spend)))
-      (λ same tip is. after-harmless account k f spend has none (eqb-true k c same) (eqb-true f e tip)
-      (accepted_calls_show tests rules (log_of events) (After account k f spend) is))
-  call-harmless (Between account k f spend) has none =
-      four-false (k == c) (f == e) (is_own at.hold.me (exit_at (log_of events) k f))
-      (is_accepted (answer_to tests rules (log_of events) (Between account k f spend)))
-      (λ same tip is. between-harmless account k f spend has (eqb-true k c same) (eqb-true f e tip)
-      (accepted_calls_show tests rules (log_of events) (Between account k f spend) is))
-  call-harmless (Finish account k f) has none =
-      and-off (k == c) _ (λ same. finish-harmless k f (eqb-true k c same) (exit_at (log_of events) k f) refl)
-  call-harmless call has none = refl
-
-  -- a refused call
-  pub refused-harmless : (call : RootCall) → is_accepted (answer_to tests rules (log_of events) call) ≡ false
-      → call_harms tests rules (log_of events) at.hold.me c e call ≡ false
-  unfolding call_harms answer_to
-  refused-harmless call off = grind (arith, common_steps, four-false, true≢false, and-off, finish-harmless, eqb-true)

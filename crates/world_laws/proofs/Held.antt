@@ -1,32 +1,14 @@
 -- What the histories of a coin have in common, and what the holder's shows.
-use Rattle.std.proofs.Common.{◌≡◌, ◌⊎◌, ℕ, ◌<◌, ◌≤◌, ◌==◌, true, false, List, [], Option, Some, None, inl, inr, refl, sym, ap, ◌∙◌, subst, arith, rules}
-use Rattle.std.specs.Prelude.{is_some}
-use Rattle.std.specs.List.{list_any}
-use Rattle.std.proofs.lemmas.Bool.{cases_lt, eqb-true, and_parts, or_cases, false≢true}
-use Rattle.std.proofs.lemmas.Grind.{common_steps}
-use Rattle.plasma_tx.specs.declared.owner.Owner.{Owner}
-use Rattle.plasma_tx.specs.declared.opening.RawOpening.{RawOpening}
-use Rattle.plasma_tx.specs.declared.links.Links.{Links}
-use Rattle.plasma_tx.specs.declared.call.RootCall.{RootCall}
-use Rattle.plasma_tx.specs.declared.views.CoinView.{CoinView}
-use Rattle.plasma_tx.specs.Links.{tip_of, last_owner_of}
-use Rattle.plasma_tx.specs.Views.{coin_at}
-use Rattle.plasma_tx.specs.Shown.{Tests, Rules, root_at}
-use Rattle.coin_history.specs.declared.bundle.Bundle.{Bundle}
-use Rattle.coin_history.specs.History.{transfer_of, links_in, IsHistory}
-use Rattle.watch_duty.specs.Duty.{next_link, link_after}
-use Rattle.watch_duty.proofs.Members.{Has}
-use Rattle.world_rules.specs.Events.{Event, log_of, accepted, bound_by, signed_away_by, is_bundle}
-use Rattle.world_rules.specs.Exhibits.{seen, is_forged}
-use Rattle.world_rules.specs.Safety.{was_deposited}
-use Rattle.world_laws.specs.Legal.{is_tip, IsLegal}
-use Rattle.world_laws.proofs.Lists.{some_same, any-some}
+use Rattle.world_laws.proofs.Basics.{◌≡◌, ◌⊎◌, ℕ, ◌<◌, ◌≤◌, true, false, List, [], Option, Some, None, inl, inr, refl, sym, ap, ◌∙◌, subst, arith, rules, is_some, list_any, cases_lt, eqb-true, and_parts, or_cases, false≢true, common_steps, some_same, any-some}
+use Rattle.world_laws.proofs.CoinWords.{Owner, RawOpening, Links, RootCall, CoinView, tip_of, last_owner_of, coin_at, Tests, Rules, root_at, Bundle, transfer_of, links_in, IsHistory, next_link, link_after, Has}
+use Rattle.world_laws.proofs.WorldWords.{Event, log_of, accepted, bound_by, signed_away_by, is_bundle, seen, is_forged, was_deposited, is_tip, IsLegal}
 use Rattle.world_laws.proofs.Clash.{IsOpened, HasOneLeaf, one_tx}
 use Rattle.world_laws.proofs.Walk.{Place, Spent, Successor, IsWalk, walk-passes, walk-above, walk-covers, walk-opened, walk-end, walk-spends_last, walk-spends, next-last, next-link, next-tip}
 use Rattle.world_laws.proofs.Histories.{place_of, history-walk}
 use Rattle.world_laws.proofs.Shown.{IsShownAt, Deposited, Transferred}
 use Rattle.world_laws.proofs.Absences.{parted}
 use Rattle.world_laws.proofs.Bound.{SignsBy, Holding, is_noted, IsSince, bound_since, unspent, owner-is}
+use Rattle.world_rules.proofs.WalletAccepts.{bundle-is}
 
 -- a history of the coin up to e, of these openings
 pub record Known (tests : Tests) (rules : Rules) (log : List RootCall) (os : List RawOpening) (c : ℕ)
@@ -60,11 +42,7 @@ module _ (tests : Tests) (rules : Rules) (log : List RootCall) (os : List RawOpe
   link_in e owner openings known n o s opened low below =
       let p = walk-covers tests rules log c made.deposit (place_of made) openings (End e owner) known.walk n
       opened.root (ap (root_at log) (sym s.block_is) ∙ opened.root_is) low below in
-      let there = walk-opened tests rules log c made.deposit (place_of made) openings (End e owner) known.walk p.0
-      p.1 in
-      let leaf = one_tx tests rules log c os one s.o p.0 s.has (known.has p.0 p.1) opened there
-      (s.block_is ∙ sym p.2) in
-      (p.0, p.1, sym leaf ∙ s.tx_is, p.2)
+      grind (arith, common_steps, walk-opened, place_of, one_tx)
 
   -- what is shown up to the tip is in each history up to it
   pub shown_in : (e : ℕ) (owner : Owner) (openings : List RawOpening)
@@ -148,10 +126,6 @@ pub known-from : (tests : Tests) (rules : Rules) (log : List RootCall) (os : ℕ
 known-from tests rules log os b links c e made history has c_is e_is found =
     grind (arith, common_steps, walk-as, some_same, history-walk)
 
-pub bundle-named : (c e : ℕ) (b : Bundle) → is_bundle c e b ≡ true → (b.coin ≡ c) × (b.tip ≡ e)
-bundle-named c e b is =
-    let parts = and_parts (b.coin == c) (b.tip == e) is in (eqb-true b.coin c parts.0, eqb-true b.tip e parts.1)
-
 -- ---- the coin that is held
 
 pub record HeldAt (tests : Tests) (rules : Rules) (events : List Event) (w c e : ℕ) (me : Owner) : Type 0 where
@@ -176,12 +150,11 @@ pub held_at : (tests : Tests) (rules : Rules) (events : List Event) (w c e : ℕ
     → (h : Holding events w c e) → HeldAt tests rules events w c e h.me
 held_at tests rules events w c e legal h =
     elim h.source [
-      | inl deposited ↦
-          grind (arith, deposited-coin, empty-walk)
+      | inl deposited ↦ grind (arith, deposited-coin, empty-walk)
       | inr accepted_is ↦
           let r = any-some (is_bundle c e) (accepted events w) accepted_is in
           let n = is_noted tests rules events w r.0 legal r.1 in
-          let name = bundle-named c e r.0 r.2 in
+          let name = bundle-is c e r.0 r.2 in
           let mine : last_owner_of n.links ≡ h.me = n.mine ∙ some_same n.me h.me (sym n.me_is ∙ h.me_is) in
           let found : coin_at (log_of events) c ≡ Some n.history.made =
           ap (coin_at (log_of events)) (sym name.0) ∙ n.history.coin in
@@ -231,11 +204,6 @@ module _ (tests : Tests) (rules : Rules) (signs : SignsBy tests) (events : List 
       (list_any (is_bundle c n) (accepted events w)) tip) [
         | inl deposited ↦
             let held = held_at tests rules events w c e legal h in
-            let d = deposited-coin h.me n (coin_at (log_of events) c) deposited in
-            let same : d.0 ≡ held.made = some_same d.0 held.made (sym d.1 ∙ held.made_is) in
-            let up = walk-passes tests rules (log_of events) c held.made.deposit (place_of held.made) held.openings
-            (record { block = e; owner = h.me }) held.known.walk in
-            omega (arith, up, d.2, ap (λ (m : CoinView). m.deposit) same)
-        | inr accepted_is ↦
-            grind (arith, any-some, bundle-named, no_later)
+            grind (arith, common_steps, deposited-coin, some_same, walk-passes, place_of)
+        | inr accepted_is ↦ grind (arith, any-some, bundle-is, no_later)
       ]

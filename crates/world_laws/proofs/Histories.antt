@@ -1,30 +1,7 @@
 -- Histories as walks, absences block by block, and that both stay as the log grows.
-use Rattle.std.proofs.Common.{◌≡◌, ℕ, suc, ◌-◌, length, ◌<◌, ◌≤◌, ◌==◌, ◌||◌, true, List, [], ◌∷◌, Option, Some, None, refl, sym, ap, ◌∙◌, subst, arith, rules}
-use Rattle.std.specs.Prelude.{is_some}
-use Rattle.std.specs.Option.{option_map, option_map_or}
-use Rattle.std.specs.List.{AllByRecursion, cons_option}
-use Rattle.std.proofs.lemmas.Bool.{eqb-true, true≢false, false≢true, false_from_ne_true, or_cases}
-use Rattle.std.proofs.lemmas.List.Elements.{recursion_from_All}
-use Rattle.std.proofs.lemmas.Grind.{common_steps}
-use Rattle.plasma_tx.specs.declared.opening.RawOpening.{RawOpening}
-use Rattle.plasma_tx.specs.declared.signed_tx.SignedTx.{SignedTx}
-use Rattle.plasma_tx.specs.declared.links.Link.{Link}
-use Rattle.plasma_tx.specs.declared.links.Links.{Links}
-use Rattle.plasma_tx.specs.declared.call.RootCall.{RootCall}
-use Rattle.plasma_tx.specs.declared.views.CoinView.{CoinView}
-use Rattle.plasma_tx.specs.Links.{last_spend, tip_of, last_owner_of}
-use Rattle.plasma_tx.specs.declared.call.Shown.TheVariants.{Deposit as AtDeposit, Spend}
-use Rattle.plasma_tx.specs.Views.{block_of}
-use Rattle.watch_duty.specs.Duty.{tip_shown}
-use Rattle.plasma_tx.specs.Shown.{Tests, Rules, root_at}
-use Rattle.coin_history.specs.declared.bundle.Bundle.{Bundle}
-use Rattle.coin_history.specs.History.{is_empty, is_absent, leaf_of_opening, transfer_of, opens_block, links_in, links_of, AreLinked, IsHistory, IsAbsent}
-use Rattle.coin_history.specs.Checking.{is_asked, opening_at}
+use Rattle.world_laws.proofs.Basics.{◌≡◌, ℕ, suc, ◌-◌, length, ◌<◌, ◌≤◌, ◌==◌, ◌||◌, true, List, [], ◌∷◌, Option, Some, None, refl, sym, ap, ◌∙◌, subst, arith, rules, is_some, option_map, option_map_or, AllByRecursion, cons_option, eqb-true, true≢false, false≢true, false_from_ne_true, or_cases, recursion_from_All, common_steps, find-has, got-has}
+use Rattle.world_laws.proofs.CoinWords.{RawOpening, SignedTx, Link, Links, RootCall, CoinView, last_spend, tip_of, last_owner_of, AtDeposit, Spend, block_of, tip_shown, Tests, Rules, root_at, Bundle, is_absent, leaf_of_opening, transfer_of, opens_block, links_in, links_of, AreLinked, IsHistory, IsAbsent, is_asked, opening_at, tip_from, owner_from, tip-is, last_owner-is, with_tx, root_at-grown, committed-le, Has, all-has, empty-is}
 use Rattle.coin_history.proofs.HistoryOpenings.{up-each, below-none, past-head, asked-parts, asked-from, AreAsked, asked-from_blocks}
-use Rattle.coin_history.proofs.HistoryLinks.{tip_from, owner_from, tip-is, last_owner-is, with_tx}
-use Rattle.coin_history.proofs.HistoryGrow.{root_at-grown, committed-le}
-use Rattle.watch_duty.proofs.Members.{Has, all-has}
-use Rattle.world_laws.proofs.Lists.{find-has, got-has}
 use Rattle.world_laws.proofs.Clash.{IsOpened}
 use Rattle.world_laws.proofs.Walk.{Place, IsGap, Moves, IsWalk}
 
@@ -32,10 +9,6 @@ abbrev pub place_of : CoinView → Place
 place_of made = record { block = made.deposit; owner = made.owner }
 
 -- ---- openings
-
-leaf-empty : (leaf : List ℕ) → is_empty leaf ≡ true → leaf ≡ []
-leaf-empty [] is = refl
-leaf-empty (byte ∷ bytes) is = absurd (false≢true is)
 
 opened-from : (tests : Tests) (log : List RootCall) (c : ℕ) (o : RawOpening) → opens_block tests log c o ≡ true
     → IsOpened tests log c o
@@ -105,7 +78,7 @@ module _ (tests : Tests) (rules : Rules) (log : List RootCall) (c tip : ℕ) whe
           → IsWalk tests rules log c o.block next os (EndOf next (links_in rules c os)))
           → IsWalk tests rules log c n last (o ∷ os)
           (EndOf last (cons_option (option_map (with_tx o) t) (links_in rules c os)))
-      by_tx None none chain at rest = grind (arith, common_steps, asked-parts, asked-gap, opened-from, leaf-empty)
+      by_tx None none chain at rest = grind (arith, common_steps, asked-parts, asked-gap, opened-from, empty-is)
       by_tx (Some tx) some chain at rest =
           let parts = asked-parts log n tip o.block are.each.0 in
           record {
@@ -170,7 +143,7 @@ absent-covers tests log c low high os is m root above under root_is = by_found (
           o = o;
           has = r.0;
           block_is = eqb-true o.block m r.1;
-          empty = leaf-empty (leaf_of_opening o) (all-has (λ x. is_absent x ≡ true) os o
+          empty = empty-is (leaf_of_opening o) (all-has (λ x. is_absent x ≡ true) os o
               (recursion_from_All (λ x. is_absent x ≡ true) os is.empty) r.0);
           opened = opened-from tests log c o (all-has (λ x. opens_block tests log c x ≡ true) os o
               (recursion_from_All (λ x. opens_block tests log c x ≡ true) os is.opened) r.0);

@@ -1,17 +1,9 @@
 -- The accounts of wallets by their nodes' numbers: no two wallets have one, and every account that deposits or starts
 -- is a wallet's or that of a `call` line.
-use Rattle.std.proofs.Common.{◌≡◌, ◌⊎◌, ℕ, zero, suc, ◌==◌, ◌||◌, Bool, true, false, if◌then◌else◌, List, [], ◌∷◌, ◌++◌, length, map, Option, Some, None, inl, inr, refl, sym, ap, ◌∙◌, set, slice_get, arith}
-use Rattle.std.specs.List.{list_any}
-use Rattle.std.proofs.Common.{filter, cond}
-use Rattle.std.proofs.lemmas.Bool.{cases_eq, eq-eqb, or_left, or_right}
-use Rattle.std.proofs.lemmas.Grind.{common_steps}
-use Rattle.plasma_tx.specs.declared.call.RootCall.{RootCall}
-use Rattle.watch_duty.proofs.Members.{Has}
-use Rattle.world_rules.specs.World.{Node, World, is_wallet_role}
-use Rattle.world_rules.specs.Declarations.{is_wallet_account}
-use Rattle.world_rules.proofs.Runs.{push-same, push-other}
-use Rattle.world_laws.specs.Legal.{starts_by, deposits_by}
-use Rattle.world_laws.proofs.Lists.{some_same}
+use Rattle.world_laws.proofs.Basics.{◌≡◌, ◌⊎◌, ℕ, zero, suc, ◌==◌, ◌||◌, Bool, true, false, if◌then◌else◌, List, [], ◌∷◌, ◌++◌, length, map, Option, Some, None, inl, inr, refl, sym, ap, ◌∙◌, set, slice_get, arith, list_any, filter, ◌≡◌, ◌⊎◌, ℕ, zero, suc, ◌==◌, ◌||◌, Bool, true, false, if◌then◌else◌, List, [], ◌∷◌, ◌++◌, length, map, Option, Some, None, inl, inr, refl, sym, ap, ◌∙◌, set, slice_get, arith, cases_eq, eq-eqb, or_left, or_right, common_steps, some_same}
+use Rattle.world_laws.proofs.CoinWords.{RootCall, Has}
+use Rattle.world_laws.proofs.WorldWords.{Node, World, is_wallet_role, is_wallet_account, push-same, push-other, starts_by, deposits_by}
+use Rattle.std.proofs.lemmas.Map.Keys.{any_passes_from_place}
 
 -- the account of a wallet's node
 abbrev pub holder : Node → Option ℕ
@@ -57,36 +49,21 @@ holders-push (node ∷ nodes) new = ap (λ (rest : List (Option ℕ)). holder no
 
 -- ---- the tests of declarations
 
-any-at : {A : Type 0} (p : A → Bool) (xs : List A) (n : ℕ) (x : A) → slice_get xs n ≡ Some x → p x ≡ true
-    → list_any p xs ≡ true
-any-at p [] n x is passes = absurd (cc is)
-any-at p (y ∷ ys) zero x is passes = or_left (p y) (list_any p ys) (ap p (some_same y x is) ∙ passes)
-any-at p (y ∷ ys) (suc n) x is passes = or_right (p y) (list_any p ys) (any-at p ys n x is passes)
-
 pub any-filter : (p q : Node → Bool) (xs : List Node) (n : ℕ) (x : Node) → slice_get xs n ≡ Some x → q x ≡ true
     → p x ≡ true → list_any p (filter q xs) ≡ true
 any-filter p q [] n x is kept passes = absurd (cc is)
-any-filter p q (y ∷ ys) zero x is kept passes =
-    ap (λ (b : Bool). list_any p (cond b (y ∷ filter q ys) (filter q ys)))
-    (ap q (some_same y x is) ∙ kept)
-    ∙ or_left (p y) (list_any p (filter q ys)) (ap p (some_same y x is) ∙ passes)
+any-filter p q (y ∷ ys) zero x is kept passes = grind (arith, common_steps, some_same, or_left)
 any-filter p q (y ∷ ys) (suc n) x is kept passes =
     grind (arith, common_steps, any-filter p q ys n x is kept passes, or_right)
 
 -- the account of a declared node is declared, and a wallet's is a wallet's
 pub held-declared : (nodes : List Node) (account : ℕ) → IsHeld (holders nodes) account
     → list_any (λ (node : Node). node.account == account) nodes ≡ true
-held-declared nodes account held =
-    let found = held-node nodes held.0 account held.1 in
-    any-at (λ (node : Node). node.account == account) nodes held.0 found.0 found.1
-    (eq-eqb found.0.account account found.3)
+held-declared nodes account held = grind (arith, common_steps, held-node, any_passes_from_place, eq-eqb)
 
 pub held-wallet : (world : World) (account : ℕ) → IsHeld (holders world.nodes) account
     → is_wallet_account world account ≡ true
-held-wallet world account held =
-    let found = held-node world.nodes held.0 account held.1 in
-    any-filter (λ (node : Node). node.account == account) (λ (node : Node). is_wallet_role node.role) world.nodes
-    held.0 found.0 found.1 found.2 (eq-eqb found.0.account account found.3)
+held-wallet world account held = grind (arith, common_steps, held-node, any-filter, eq-eqb)
 
 -- ---- what is kept of accounts
 
@@ -131,20 +108,7 @@ accounts-push held new callers log other kept = record {
 
     distinct : (n m account : ℕ) → slice_get (held ++ new ∷ []) n ≡ Some (Some account)
         → slice_get (held ++ new ∷ []) m ≡ Some (Some account) → n ≡ m
-    distinct n m account one two = elim (cases_eq (length held) n) [
-      | inl n_last ↦ elim (cases_eq (length held) m) [
-        | inl m_last ↦ sym n_last ∙ m_last
-        | inr m_old ↦
-            absurd (other account (last n account n_last one) (m, sym (push-other held new m m_old) ∙ two))
-      ]
-      | inr n_old ↦ elim (cases_eq (length held) m) [
-        | inl m_last ↦
-            absurd (other account (last m account m_last two) (n, sym (push-other held new n n_old) ∙ one))
-        | inr m_old ↦
-            kept.distinct n m account (sym (push-other held new n n_old) ∙ one)
-            (sym (push-other held new m m_old) ∙ two)
-      ]
-    ]
+    distinct n m account one two = grind (arith, common_steps, cases_eq, last, push-other)
 
 -- more `call` lines
 pub accounts-callers : (held : List (Option ℕ)) (callers more : List ℕ) (log : List RootCall)

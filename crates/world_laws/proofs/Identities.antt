@@ -1,27 +1,11 @@
 -- Who the nodes are, what they offer, and that all of it stays: the first of a node's notes is its identity, whose
 -- tag is the chain's and whose account is the node's; events say who the wallets are, and of no other node.
-use Rattle.std.proofs.Common.{◌≡◌, ℕ, ◌<◌, ◌^◌, Bool, true, false, if◌then◌else◌, List, [], ◌∷◌, length, Option, Some, None, refl, ap, slice_get, arith}
-use Rattle.std.specs.List.{list_any}
-use Rattle.std.proofs.lemmas.Bool.{eq-eqb}
-use Rattle.std.proofs.lemmas.Grind.{common_steps}
-use Rattle.lms_sign.specs.Types.{is_supported}
-use Rattle.plasma_tx.specs.declared.owner.Owner.{Owner}
-use Rattle.plasma_tx.specs.declared.call.RootCall.{RootCall}
-use Rattle.node_rules.specs.declared.identity.WalletIdentity.{WalletIdentity}
-use Rattle.node_rules.specs.WalletRecords.{identity_text as wallet_text, owner_of, who_is as who_is_wallet}
-use Rattle.node_rules.specs.WalletLaws.{IsIdentity as IsWalletIdentity}
-use Rattle.node_rules.specs.Watcher.{WatcherIdentity, identity_text as watcher_text, who_is as who_is_watcher}
-use Rattle.node_rules.specs.WatcherLaws.{IsIdentity as IsWatcherIdentity}
+use Rattle.world_laws.proofs.Basics.{◌≡◌, ℕ, ◌<◌, ◌^◌, Bool, true, false, if◌then◌else◌, List, [], ◌∷◌, length, Option, Some, None, ap, slice_get, arith, refl, list_any, eq-eqb, common_steps, some_same, none_some}
+use Rattle.world_laws.proofs.CoinWords.{is_supported, Owner, RootCall, Has}
+use Rattle.world_laws.proofs.NodeWords.{WalletIdentity, wallet_text, owner_of, who_is_wallet, IsWalletIdentity, WatcherIdentity, watcher_text, who_is_watcher, IsWatcherIdentity, with_record}
+use Rattle.world_laws.proofs.WorldWords.{Event, Declares, wallet_owner, node_in, is_command_of, Role, Wallet, Watcher, Operator, Node, World, is_wallet_role, owner_of_node, Said, said, is_said_of, said-other, IsOfChain, starts_by, deposits_by}
 use Rattle.node_rules.proofs.WalletTexts.{identity_in-text as wallet-read}
 use Rattle.node_rules.proofs.WatcherTexts.{identity_in-text as watcher-read}
-use Rattle.watch_duty.proofs.Members.{Has}
-use Rattle.node_replies.specs.Orders.{with_record}
-use Rattle.world_rules.specs.Events.{Event, Declares, wallet_owner, node_in, is_command_of}
-use Rattle.world_rules.specs.World.{Role, Wallet, Watcher, Operator, Node, World, is_wallet_role, owner_of_node}
-use Rattle.world_rules.proofs.Said.{Said, said, is_said_of, said-other}
-use Rattle.world_rules.specs.Evidence.{IsOfChain}
-use Rattle.world_laws.specs.Legal.{starts_by, deposits_by}
-use Rattle.world_laws.proofs.Lists.{some_same, none_some}
 
 -- ---- who a node is
 
@@ -86,8 +70,7 @@ IsNodeAt events tag n (Some node) = IsNode events tag n node
 pub owner-new : (w n : ℕ) (me : Owner) (events : List Event) → w ≡ n
     → wallet_owner (Declares w me ∷ events) n ≡ Some me
 unfolding wallet_owner
-owner-new w n me events same =
-    ap (λ (b : Bool). if b then Some me else wallet_owner events n) (eq-eqb w n same)
+owner-new w n me events same = ap (λ (b : Bool). if b then Some me else wallet_owner events n) (eq-eqb w n same)
 
 -- who owns what isn't said by what says nothing of it
 pub owner-same : (event : Event) (events : List Event) (n : ℕ) → is_said_of n event ≡ false

@@ -1,36 +1,12 @@
 -- The invariant of a held coin, at each line of a run.
-use Rattle.std.proofs.Common.{◌≡◌, ℕ, ◌&&◌, true, false, List, ◌∷◌, ◌++◌, Some, inl, inr, sym, ap, ◌∙◌, subst}
-use Rattle.std.proofs.lemmas.Bool.{cases_Bool, and_right, true≢false}
-use Rattle.plasma_tx.specs.declared.owner.Owner.{Owner}
-use Rattle.plasma_tx.specs.Views.{exits}
-use Rattle.plasma_tx.specs.Shown.{Rules, tests_by, rules_of}
-use Rattle.schedule_text.specs.declared.line.Line.{Line}
-use Rattle.world_rules.specs.Laws.{IsDigest}
-use Rattle.world_rules.specs.Events.{Event, log_of, wallet_owner}
-use Rattle.world_rules.specs.World.{World}
-use Rattle.world_rules.specs.Steps.{Run, events_of}
-use Rattle.world_rules.specs.Exhibits.{collides, is_forged}
-use Rattle.world_rules.specs.Safety.{holds, harms, is_harmed}
-use Rattle.world_laws.specs.Headline.{IsRun}
-use Rattle.world_laws.specs.Legal.{IsLegal}
-use Rattle.world_laws.specs.Looked.{goes_unseen, is_looked_after}
-use Rattle.world_laws.specs.Invariant.{ExitsAreWatched, HoldersBeginWithNoExit, LinesKeepExitsWatched, WatchedExitsDoNoHarm, HeldCoinsAreWatched}
-use Rattle.world_laws.proofs.Lists.{some_same}
-use Rattle.world_laws.proofs.Bound.{Holding, holding}
+use Rattle.world_laws.proofs.Basics.{◌≡◌, ℕ, ◌&&◌, true, false, List, ◌∷◌, Some, inl, inr, sym, ap, ◌∙◌, subst, cases_Bool, and_right, true≢false, some_same}
+use Rattle.world_laws.proofs.CoinWords.{Owner, exits, Rules, tests_by, rules_of, contains-has}
+use Rattle.world_laws.proofs.WorldWords.{IsDigest, Event, log_of, wallet_owner, collides, is_forged, holds, harms, is_harmed, IsLegal, goes_unseen, is_looked_after, ExitsAreWatched, HoldersBeginWithNoExit, LinesKeepExitsWatched, WatchedExitsDoNoHarm, HeldCoinsAreWatched}
+use Rattle.world_laws.proofs.HeldCoins.{Holding, holding}
 use Rattle.world_laws.proofs.Guards.{holds-from}
 use Rattle.world_laws.proofs.Before.{forged-parts, held_before}
 use Rattle.world_laws.proofs.Safe.{kept-event, watched, harmless}
-use Rattle.world_laws.proofs.CoinEvents.{runs-legal}
-use Rattle.world_laws.proofs.Promises.{suffix-legal}
-use Rattle.watch_duty.proofs.Members.{contains-has}
-
--- the events up to a line of a run are legal
-legal-to : (dig : List ℕ → List ℕ) (lines : List Line) (run : Run) (world : World) (later events : List Event)
-    → IsRun dig lines run world → events_of run.entries ≡ later ++ events
-    → IsLegal (tests_by dig) (rules_of world.chain) events
-legal-to dig lines run world later events is split =
-    suffix-legal (tests_by dig) (rules_of world.chain) later events
-    (subst (IsLegal (tests_by dig) (rules_of world.chain)) split (runs-legal dig lines run world is))
+use Rattle.world_laws.proofs.Promises.{legal-to}
 
 -- the holder is the wallet's owner
 holder-is : (events : List Event) (w c e : ℕ) (me : Owner) (h : Holding events w c e)

@@ -1,37 +1,10 @@
 -- What holds in the world of every run behind its events: who the nodes are, what they offer, and whose accounts the
 -- log's calls move.
-use Rattle.std.proofs.Common.{◌≡◌, ℕ, zero, suc, ◌==◌, true, false, if◌then◌else◌, List, [], ◌∷◌, ◌++◌, length, Option, Some, None, inl, inr, refl, sym, ap, ◌∙◌, subst, set, slice_get, le_refl, arith, rules}
-use Rattle.std.specs.List.{list_any}
-use Rattle.std.proofs.lemmas.Bool.{and_parts, or_parts, or_left, or_right, not-true, eqb-true, false≢true}
-use Rattle.std.proofs.lemmas.Option.{slice_get_past}
-use Rattle.std.proofs.lemmas.Grind.{common_steps}
-use Rattle.line_forms.proofs.FormLaws.{option_map_some}
-use Rattle.plasma_tx.specs.declared.call.RootCall.{RootCall}
-use Rattle.plasma_tx.specs.Shown.{Rules, tests_by, rules_of}
-use Rattle.plasma_tx.specs.Table.{answer_to, is_accepted, log_after}
-use Rattle.schedule_text.specs.declared.line.Line.{Line}
-use Rattle.schedule_text.specs.declared.call_form.CallForm.{CallForm}
-use Rattle.node_rules.specs.declared.identity.WalletIdentity.{WalletIdentity}
-use Rattle.node_rules.specs.WalletRecords.{identity_text as wallet_text}
-use Rattle.node_rules.specs.Wallet.{who}
-use Rattle.node_rules.specs.Watcher.{WatcherIdentity, who_is, identity_text as watcher_text}
-use Rattle.node_replies.specs.declared.order.NodeOrder.{NodeOrder}
-use Rattle.watch_duty.proofs.Members.{Has}
-use Rattle.world_rules.specs.Events.{Event, Idle, wallet_owner, node_in, is_command_of}
-use Rattle.world_rules.specs.World.{Wallet, Watcher, Node, World, is_wallet_role, is_watcher_role, owner_of_node, wallet_of, call_of}
-use Rattle.world_rules.specs.Declarations.{is_declared_account, is_caller, may_be_wallet}
-use Rattle.world_rules.specs.Deeds.{Deed}
-use Rattle.world_rules.specs.Steps.{new_node, offer_numbered, Run, events_of}
-use Rattle.world_rules.proofs.Lives.{begun}
-use Rattle.world_rules.specs.Acts.{Place, NewWallet, NewWatcher, NewRogue, Origin, Plain, Deposits, Raw, Offered, Act, Adds, Enters, Orders, Crashes, callers_after, End, Whole, Crashed, Kept, Lost, end_of, node_after, event_after, deed_at, done}
-use Rattle.world_rules.specs.Evidence.{IsThere, is_plain, IsFrom, MayOrder, IsActIn}
-use Rattle.world_rules.proofs.Fitting.{IsFitAct}
-use Rattle.world_rules.proofs.Lives.{line_effect}
-use Rattle.world_rules.proofs.Nodes.{change_of, EachNode, IsOther, IsKeptOwn, each_node_keeps}
+use Rattle.world_laws.proofs.Basics.{◌≡◌, ℕ, ◌==◌, true, false, if◌then◌else◌, List, [], ◌∷◌, ◌++◌, length, Option, Some, None, inl, inr, refl, sym, ap, ◌∙◌, subst, set, slice_get, le_refl, arith, rules, list_any, and_parts, or_parts, or_left, or_right, not-true, eqb-true, false≢true, slice_get_past, common_steps, some_same, none_some, got-has}
+use Rattle.world_laws.proofs.CoinWords.{RootCall, Rules, tests_by, rules_of, answer_to, is_accepted, log_after, Has}
+use Rattle.world_laws.proofs.NodeWords.{WalletIdentity, wallet_text, who, who_is, WatcherIdentity, watcher_text, NodeOrder}
+use Rattle.world_laws.proofs.WorldWords.{option_map_some, Line, CallForm, Event, Idle, wallet_owner, node_in, is_command_of, Wallet, Node, World, is_wallet_role, is_watcher_role, owner_of_node, wallet_of, call_of, Watcher, is_declared_account, is_caller, may_be_wallet, Deed, new_node, offer_numbered, Run, events_of, begun, Place, NewWallet, NewWatcher, NewRogue, Origin, Plain, Deposits, Raw, Offered, Act, Adds, Enters, Orders, Crashes, callers_after, End, Whole, Crashed, Kept, Lost, node_after, event_after, deed_at, done, IsThere, is_plain, IsFrom, MayOrder, IsActIn, IsFitAct, line_effect, begun, change_of, EachNode, IsOther, IsKeptOwn, each_node_keeps, OperatorIsFirst, by-end, commands-others, said-others, rules-stay, IsRun}
 use Rattle.world_rules.proofs.Same.{IsSame, same-after}
-use Rattle.world_rules.proofs.Told.{OperatorIsFirst, by-end, commands-others, said-others, rules-stay}
-use Rattle.world_laws.specs.Headline.{IsRun}
-use Rattle.world_laws.proofs.Lists.{some_same, none_some}
 use Rattle.world_laws.proofs.Acts.{over_events}
 use Rattle.world_laws.proofs.Holders.{holder, holders, IsHeld, holder-wallet, holder-at, holders-set, holders-push, held-declared, Moves, IsKnown, KeepAccounts, accounts-push, accounts-callers, accounts-call}
 use Rattle.world_laws.proofs.Identities.{IsOfRole, IsWallet, IsWatcher, IsNode, IsNodeAt, IsOffer, wallet-node, watcher-who, owner-same, owner-own, owner-new, role-stays, node-same, first-recorded, wallet-identity}
@@ -54,15 +27,9 @@ held-by nodes n node account is role same = (n, holder-is nodes n node account i
 pub plain-moves : (call : RootCall) (account : ℕ) → is_plain call ≡ true → Moves account call → ⊥
 plain-moves call account plain moves = grind (arith, common_steps, false≢true)
 
--- an offer with a number is one of the offers
-slice-has : (xs : List RootCall) (n : ℕ) (x : RootCall) → slice_get xs n ≡ Some x → Has xs x
-slice-has [] n x is = absurd (cc is)
-slice-has (y ∷ ys) zero x is = inl (some_same y x is)
-slice-has (y ∷ ys) (suc n) x is = inr (slice-has ys n x is)
-
 pub offered-has : (number : ℕ) (node : Node) (call : RootCall) → offer_numbered number node ≡ Some call
     → Has node.offers call
-offered-has number node call is = grind (arith, common_steps, slice-has)
+offered-has number node call is = grind (arith, common_steps, got-has)
 
 -- a stranger's call moves its own account
 pub raw-moves : (world : World) (account : ℕ) (form : CallForm) (call : RootCall) (by : ℕ)
@@ -267,9 +234,7 @@ module _ (dig : List ℕ → List ℕ) (events : List Event) (world : World) (ke
       (λ by is held. absurd (none_some by is))
   accounts-kept (Adds name (NewRogue who)) known = keeps.accounts
   accounts-kept (Enters origin call) known = entered-accounts call origin known
-  accounts-kept (Orders place order cut) known =
-      let deed = deed_at dig world place order in
-      same-accounts place _ known.there (same-after place.node deed (end_of cut place.node order deed))
+  accounts-kept (Orders place order cut) known = grind (arith, common_steps, same-accounts, same-after)
   accounts-kept (Crashes place) known =
       same-accounts place _ known (record { name = refl; account = refl; role = refl })
   accounts-kept act known = keeps.accounts

@@ -1,54 +1,11 @@
 -- In every run, a wallet's notes have each coin and block with which its leaves offered to leave; and each bundle that
 -- they accept has openings.
-use Rattle.std.proofs.Common.{◌≡◌, ◌≢◌, ◌⊎◌, ℕ, ◌^◌, ◌<◌, ◌==◌, ◌&&◌, Bool, true, false, List, [], ◌∷◌, ◌++◌, Option, Some, None, Ok, Err, inl, inr, refl, sym, ap, ◌∙◌, subst, arith}
-use Rattle.std.specs.Prelude.{Result, IfSome, option_map}
-use Rattle.std.specs.List.{All, AllByRecursion}
-use Rattle.std.proofs.lemmas.Bool.{eq-eqb, and_from, or_left, or_right, false≢true, true≢false}
-use Rattle.std.proofs.lemmas.List.Elements.{All-push}
-use Rattle.std.proofs.lemmas.List.Folds.{list_any-append}
-use Rattle.std.proofs.lemmas.Grind.{common_steps}
-use Rattle.plasma_tx.specs.declared.links.Links.{Links}
-use Rattle.plasma_tx.specs.declared.owner.Owner.{Owner}
-use Rattle.plasma_tx.specs.declared.call.RootCall.{RootCall}
-use Rattle.plasma_tx.specs.Links.{tip_of}
-use Rattle.plasma_tx.specs.Views.{blocks, coin_at}
-use Rattle.plasma_tx.specs.declared.views.CoinView.{CoinView}
-use Rattle.coin_history.specs.declared.bundle.Bundle.{Bundle}
-use Rattle.coin_history.specs.History.{links_of}
-use Rattle.wallet_core.specs.declared.notes.CoinTip.{CoinTip}
-use Rattle.wallet_core.specs.declared.notes.Notes.{Notes}
-use Rattle.wallet_core.specs.declared.coin_state.CoinState.{CoinState}
-use Rattle.wallet_core.specs.declared.coin_state.CoinState.TheVariants.{Nothing, Sending, Leaving, Held}
-use Rattle.wallet_core.specs.State.{is_noted}
-use Rattle.wallet_core.proofs.StateLaws.{leaving_is}
-use Rattle.node_rules.specs.declared.refusal.WalletRefusal.{WalletRefusal}
-use Rattle.node_rules.specs.Kept.{kept_of, chain_of}
-use Rattle.node_rules.specs.WalletLaws.{AddsNote}
-use Rattle.node_rules.specs.WalletCommandLaws.{HaveOpenings, AddsAccepted, AddsLeaving, AddsReclaimed}
-use Rattle.node_rules.specs.WalletRecords.{Note, Accepts as AcceptsNote, LeavesWith, Reclaims, note_text, owner_of, notes_of, accepted_of, state_notes, leaves_in, coin_tip}
-use Rattle.node_rules.specs.Wallet.{WalletRecords, who, noted, coin_state, kept_at, links_at, start_of, leave_from, accept_effect, send_effect, leave_effect, reclaim_effect}
-use Rattle.node_rules.proofs.WalletGrow.{noted-grow, state-accepts, state-leaves, state-reclaims, accepted-accepts, accepted-leaves, accepted-reclaims}
-use Rattle.node_rules.proofs.WalletAdded.{send-note, migrate-note}
-use Rattle.node_rules.proofs.WalletRole.{accepts_add_their_notes, leaves_add_their_notes, leaves_are_answered, reclaims_add_their_notes}
-use Rattle.node_rules.proofs.ExitTips.{exits_are_of_the_tip}
-use Rattle.world_rules.specs.Events.{Event, Leaves, coin_of_call}
-use Rattle.world_rules.specs.World.{Node, World, wallet_of, is_wallet_role}
-use Rattle.world_rules.specs.Deeds.{Deed, as_deed}
-use Rattle.node_replies.specs.declared.order.NodeOrder.{NodeOrder}
-use Rattle.node_replies.specs.declared.order.WalletOrder.{WalletOrder}
-use Rattle.node_replies.specs.Orders.{with_record, exit_block, on_leaving, wallet_does}
-use Rattle.world_rules.specs.Orders.{node_does}
-use Rattle.world_rules.specs.OrderEvents.{event_of}
-use Rattle.world_rules.proofs.OrderEnds.{OrderEnds, Leaving as LeavingEnds, wallet_told, order-ends}
-use Rattle.node_replies.proofs.ByteTexts.{Small}
-use Rattle.world_rules.proofs.Said.{Said}
-use Rattle.world_rules.proofs.KeptWallet.{KeptWallet, with_note}
-use Rattle.world_rules.proofs.KeptNode.{Feeds, IsFitOrder, wallet-alone}
-use Rattle.world_rules.specs.Evidence.{has_order}
-use Rattle.world_rules.proofs.WalletSends.{words}
-use Rattle.world_laws.proofs.Lists.{some_same}
+use Rattle.world_laws.proofs.Basics.{◌≡◌, ◌≢◌, ◌⊎◌, ℕ, ◌^◌, ◌<◌, Bool, true, false, List, [], ◌∷◌, ◌++◌, Option, Some, None, Ok, Err, inl, inr, refl, sym, ap, ◌∙◌, subst, arith, Result, IfSome, option_map, All, AllByRecursion, eq-eqb, and_from, or_left, or_right, false≢true, true≢false, All-push, list_any-append, common_steps, some_same}
+use Rattle.world_laws.proofs.CoinWords.{Links, Owner, RootCall, tip_of, blocks, coin_at, CoinView, Bundle, links_of, CoinTip, Notes, CoinState, Nothing, Sending, Leaving, Held, is_noted, leaving_is}
+use Rattle.world_laws.proofs.NodeWords.{WalletRefusal, kept_of, chain_of, AddsNote, HaveOpenings, AddsAccepted, AddsLeaving, AddsReclaimed, Note, AcceptsNote, LeavesWith, Reclaims, note_text, accepted_of, state_notes, leaves_in, coin_tip, WalletRecords, who, noted, coin_state, kept_at, links_at, start_of, leave_from, accept_effect, send_effect, leave_effect, reclaim_effect, noted-grow, state-accepts, state-leaves, state-reclaims, accepted-accepts, accepted-leaves, accepted-reclaims, send-note, migrate-note, accepts_add_their_notes, leaves_add_their_notes, leaves_are_answered, reclaims_add_their_notes, exits_are_of_the_tip, NodeOrder, WalletOrder, with_record, exit_block, on_leaving, wallet_does, Small}
+use Rattle.world_laws.proofs.WorldWords.{Event, Leaves, coin_of_call, Node, World, wallet_of, is_wallet_role, Deed, as_deed, node_does, event_of, OrderEnds, LeavingEnds, wallet_told, order-ends, Said, KeptWallet, with_note, Feeds, IsFitOrder, wallet-alone, has_order, words}
+use Rattle.world_laws.proofs.HeldCoins.{links-at}
 use Rattle.world_laws.proofs.Offers.{StartsAt, start-at}
-use Rattle.world_laws.proofs.Histories.{links-at}
 use Rattle.world_laws.proofs.AcceptsShown.{node_with}
 
 -- ---- one more note
@@ -71,15 +28,10 @@ pub record StillNoted (dig : List ℕ → List ℕ) (wallet after : WalletRecord
       → is_noted c e (noted dig after).leaving ≡ true
 
 noted-before : (c e : ℕ) (notes more : List CoinTip) → is_noted c e notes ≡ true → is_noted c e (notes ++ more) ≡ true
-noted-before c e notes more is =
-    list_any-append (λ (note : CoinTip). (note.coin == c) && (note.tip == e)) notes more
-    ∙ or_left (is_noted c e notes) (is_noted c e more) is
+noted-before c e notes more is = grind (arith, common_steps, list_any-append, or_left)
 
 noted-new : (c e : ℕ) (notes : List CoinTip) → is_noted c e (notes ++ coin_tip c e ∷ []) ≡ true
-noted-new c e notes =
-    list_any-append (λ (note : CoinTip). (note.coin == c) && (note.tip == e)) notes (coin_tip c e ∷ [])
-    ∙ or_right (is_noted c e notes) (is_noted c e (coin_tip c e ∷ []))
-    (or_left ((c == c) && (e == e)) false (and_from (c == c) (e == e) (eq-eqb c c refl) (eq-eqb e e refl)))
+noted-new c e notes = grind (arith, common_steps, list_any-append, or_right, or_left, and_from, eq-eqb)
 
 module _ (dig : List ℕ → List ℕ) (wallet : WalletRecords) where
   abbrev Opened : Bundle → Type 0
@@ -89,10 +41,8 @@ module _ (dig : List ℕ → List ℕ) (wallet : WalletRecords) where
       → All Opened (accepted_of (note ∷ notes))
   opened-more (AcceptsNote kept) has notes all =
       subst (All Opened) (sym (accepted-accepts kept notes)) (All-push Opened (accepted_of notes) kept all has)
-  opened-more (LeavesWith coin tip) has notes all =
-      subst (All Opened) (sym (accepted-leaves coin tip notes)) all
-  opened-more (Reclaims coin tip q) has notes all =
-      subst (All Opened) (sym (accepted-reclaims coin tip q notes)) all
+  opened-more (LeavesWith coin tip) has notes all = subst (All Opened) (sym (accepted-leaves coin tip notes)) all
+  opened-more (Reclaims coin tip q) has notes all = subst (All Opened) (sym (accepted-reclaims coin tip q notes)) all
 
   leaving-more : (note : Note) (me : Owner) (notes : List Note) (c e : ℕ)
       → is_noted c e (state_notes me notes).leaving ≡ true
@@ -109,10 +59,7 @@ module _ (dig : List ℕ → List ℕ) (wallet : WalletRecords) where
   still-noted : (note leaf : Option (List ℕ)) → Noting dig wallet note
       → StillNoted dig wallet
       (record { notes = with_record wallet.notes note; leaves = with_record wallet.leaves leaf })
-  still-noted one leaf (NoNote none) =
-      subst (λ (o : Option (List ℕ)). StillNoted dig wallet
-      (record { notes = with_record wallet.notes o; leaves = with_record wallet.leaves leaf })) (sym none)
-      (record { openings = λ all. all; leaving = λ c e is. is })
+  still-noted one leaf (NoNote none) = grind (arith, common_steps)
   still-noted one leaf (OneNote body added some adds has) =
       let more = one-more body added adds has in
       subst (λ (o : Option (List ℕ)). StillNoted dig wallet
@@ -136,10 +83,7 @@ start-there dig wallet log coin tip links shown ends =
         → option_map (λ made. links_of (chain_of (who wallet).tag) made kept) found ≡ Some links
         → AllByRecursion (λ link. link.opening.block ≡ link.block) links.spends
     by None wrong = absurd (cc wrong)
-    by (Some made) is =
-        subst (λ (l : Links). AllByRecursion (λ link. link.opening.block ≡ link.block) l.spends)
-        (some_same (links_of (chain_of (who wallet).tag) made kept) links is)
-        (links-at (chain_of (who wallet).tag) kept.coin kept.openings)
+    by (Some made) is = grind (arith, common_steps, some_same, kept, links-at)
 
 -- ---- a wallet's commands
 
@@ -181,8 +125,7 @@ module _ (dig : List ℕ → List ℕ) (s : Said) (log : List RootCall) (wallet 
     where
       by : (note : Option (List ℕ)) → IfSome note (AddsReclaimed dig wallet log bytes) → Noting dig wallet note
       by None none = NoNote refl
-      by (Some body) added =
-          OneNote body (Reclaims added.0.coin added.0.tip added.0.q) refl added.3 tt
+      by (Some body) added = OneNote body (Reclaims added.0.coin added.0.tip added.0.q) refl added.3 tt
 
   leave-noting : (coin : ℕ) → coin < 2 ^ 64 → Noting dig wallet (leave_effect dig wallet log coin).note
   leave-noting coin fits =
@@ -221,13 +164,7 @@ module _ (dig : List ℕ → List ℕ) (s : Said) (log : List RootCall) (wallet 
           → is_noted (coin_of_call call) (exit_block call) (noted dig after).leaving ≡ true
       there tip state is =
           let start = leaves_are_answered dig wallet log coin tip state in
-          let same : start_of (who wallet).account tip start.0 ≡ call = cc (start.2, gives) in
-          let at = start-there dig wallet log coin tip start.0 start.1
-          (exits_are_of_the_tip dig wallet log coin tip start.0 state have start.1) in
-          ap (λ (k : RootCall). is_noted (coin_of_call k) (exit_block k) (noted dig after).leaving) (sym same)
-          ∙ ap (λ (c : ℕ). is_noted c (exit_block (start_of (who wallet).account tip start.0))
-          (noted dig after).leaving) at.coin_is
-          ∙ ap (λ (e : ℕ). is_noted coin e (noted dig after).leaving) at.block_is ∙ is
+          grind (arith, common_steps, start-there, exits_are_of_the_tip, after)
 
       refused : (state : CoinState) → coin_state dig wallet log coin ≡ state
           → (leave_from dig wallet log coin state).answer ≡ Err WalletRefusal.NotHeld
@@ -250,17 +187,7 @@ module _ (dig : List ℕ → List ℕ) (s : Said) (log : List RootCall) (wallet 
           let added : AddsLeaving dig wallet log coin text =
           subst (λ (o : Option (List ℕ)). IfSome o (AddsLeaving dig wallet log coin)) some
           (leaves_add_their_notes dig wallet log coin kept.is (words dig s log wallet kept few) fits) in
-          let same : added.0 ≡ tip = cc (added.1, is) in
-          let adds : AddsNote dig wallet.notes (LeavesWith coin tip) text =
-          subst (λ (t : ℕ). AddsNote dig wallet.notes (LeavesWith coin t) text) same added.2 in
-          ap (λ (o : Option (List ℕ)). is_noted coin tip (noted dig (record {
-            notes = with_record wallet.notes o;
-            leaves = with_record wallet.leaves (leave_effect dig wallet log coin).leaf;
-          })).leaving) some
-          ∙ ap (λ (n : Notes). is_noted coin tip n.leaving)
-          (noted-grow dig wallet text (LeavesWith coin tip) adds
-          ∙ state-leaves (owner_of (who wallet)) coin tip (notes_of dig wallet.notes))
-          ∙ noted-new coin tip notes.leaving
+          grind (arith, common_steps, noted-grow, state-leaves, noted-new)
 
       by : (state : CoinState) → coin_state dig wallet log coin ≡ state
           → is_noted (coin_of_call call) (exit_block call) (noted dig after).leaving ≡ true
@@ -323,14 +250,10 @@ module _ (dig : List ℕ → List ℕ) (s : Said) (log : List RootCall) (few : b
           → is_noted (coin_of_call call) (exit_block call)
           (noted dig (after_deed wallet (deed_by (WalletOrder.Leave coin)))).leaving ≡ true
       by (Err why) answered m call is = absurd (cc is)
-      by (Ok start) answered m call is =
-          let same : start ≡ call = cc is in
-          leave-left dig s log wallet kept few coin fit have call
-          (answered ∙ ap (λ (k : RootCall). Ok k) same)
+      by (Ok start) answered m call is = grind (arith, common_steps, leave-left)
   wallet-left (WalletOrder.Reclaim bytes) fit =
       other-left (WalletOrder.Reclaim bytes) refl (reclaim-noting dig s log wallet kept few bytes fit)
-  wallet-left WalletOrder.Migrate fit =
-      other-left WalletOrder.Migrate refl (NoNote (migrate-note wallet))
+  wallet-left WalletOrder.Migrate fit = other-left WalletOrder.Migrate refl (NoNote (migrate-note wallet))
   wallet-left order fit = other-left order refl (NoNote refl)
 
 -- ---- commands

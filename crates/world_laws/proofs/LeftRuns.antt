@@ -1,23 +1,9 @@
 -- A wallet's notes have each coin and block with which it offered to leave, and each bundle that they accept has
 -- openings: what one more event and one more note leave of it.
-use Rattle.std.proofs.Common.{◌≡◌, ◌≢◌, ℕ, ◌==◌, Bool, true, false, if◌then◌else◌, List, [], ◌∷◌, None, refl, sym, ap, ◌∙◌, subst, arith}
-use Rattle.std.specs.List.{All, list_any}
-use Rattle.std.proofs.lemmas.Bool.{cases_eq, eqb-true, ne_eqb, and_parts, or_cases, or_parts}
-use Rattle.std.proofs.lemmas.List.Elements.{All-nil}
-use Rattle.std.proofs.lemmas.Grind.{common_steps}
-use Rattle.plasma_tx.specs.declared.call.RootCall.{RootCall}
-use Rattle.wallet_core.specs.declared.notes.CoinTip.{CoinTip}
-use Rattle.coin_history.specs.declared.bundle.Bundle.{Bundle}
-use Rattle.wallet_core.specs.State.{is_noted}
-use Rattle.node_rules.specs.WalletCommandLaws.{HaveOpenings}
-use Rattle.node_rules.specs.WalletRecords.{notes_of, accepted_of}
-use Rattle.node_rules.specs.Wallet.{WalletRecords, noted}
-use Rattle.node_replies.specs.Orders.{exit_block}
-use Rattle.world_rules.specs.Events.{Event, Leaves, coin_of_call, node_in, is_command_of}
-use Rattle.world_rules.specs.World.{Node, wallet_of}
-use Rattle.world_rules.specs.Steps.{without_offers}
-use Rattle.world_laws.specs.Legal.{left_by, is_left}
-use Rattle.world_laws.proofs.Lists.{none_some}
+use Rattle.world_laws.proofs.Basics.{◌≡◌, ℕ, ◌==◌, true, false, List, [], ◌∷◌, None, refl, arith, sym, Bool, if◌then◌else◌, ap, list_any, cases_eq, eqb-true, ne_eqb, and_parts, or_cases, or_parts, common_steps, none_some}
+use Rattle.world_laws.proofs.CoinWords.{RootCall, CoinTip, is_noted}
+use Rattle.world_laws.proofs.NodeWords.{HaveOpenings, notes_of, accepted_of, WalletRecords, noted, exit_block}
+use Rattle.world_laws.proofs.WorldWords.{Event, Leaves, coin_of_call, node_in, is_command_of, Node, wallet_of, without_offers, left_by, is_left}
 use Rattle.world_laws.proofs.LeftNotes.{StillLeft}
 
 -- ---- what is left by one more event
@@ -58,8 +44,7 @@ unfolding left_by
 unused-left [] n none = refl
 unused-left (Leaves v call ∷ events) n none =
     let parts = or_parts (v == n) (list_any (is_command_of n) events) none in
-    ap (λ (b : Bool). if b then call ∷ left_by events n else left_by events n) parts.0
-    ∙ unused-left events n parts.1
+    grind (arith, common_steps, unused-left events n parts.1)
 unused-left (event ∷ events) n none =
     unused-left events n (or_parts (is_command_of n event) (list_any (is_command_of n) events) none).1
 
@@ -81,9 +66,7 @@ node-more dig events event n node after more left = grind (arith, common_steps, 
 pub bare-openings : (dig : List ℕ → List ℕ) (wallet : WalletRecords) (identity : List ℕ) → wallet.notes ≡ identity ∷ []
     → HaveOpenings dig wallet
 unfolding notes_of accepted_of
-bare-openings dig wallet identity is =
-    subst (λ (notes : List (List ℕ)). All (λ kept. kept.openings ≢ []) (accepted_of (notes_of dig notes))) (sym is)
-    (All-nil (λ (kept : Bundle). kept.openings ≢ []))
+bare-openings dig wallet identity is = grind (arith, common_steps)
 
 -- a cut's event is no leave
 pub cut-other : (n : ℕ) (event : Event) (m : ℕ) (call : RootCall) → without_offers n event ≡ Leaves m call → ⊥

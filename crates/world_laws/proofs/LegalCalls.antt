@@ -1,28 +1,9 @@
 -- Calls that are entered and wallets that are declared are legal.
-use Rattle.std.proofs.Common.{◌≡◌, ◌⊎◌, ℕ, Bool, true, false, if◌then◌else◌, List, length, Some, inl, inr, refl, sym, ap, ◌∙◌, subst, slice_get, arith}
-use Rattle.std.specs.List.{Contains, list_any}
-use Rattle.std.proofs.lemmas.Bool.{eqb-true, true≢false, false≢true}
-use Rattle.std.proofs.lemmas.Grind.{common_steps}
-use Rattle.plasma_tx.specs.declared.owner.Owner.{Owner}
-use Rattle.plasma_tx.specs.declared.call.RootCall.{RootCall}
-use Rattle.plasma_tx.specs.declared.answer.Answer.{Answer}
-use Rattle.plasma_tx.specs.Shown.{tests_by, rules_of}
-use Rattle.plasma_tx.specs.Table.{answer_to, is_accepted}
-use Rattle.node_rules.specs.declared.identity.WalletIdentity.{WalletIdentity}
-use Rattle.node_rules.specs.WalletRecords.{owner_of}
-use Rattle.watch_duty.proofs.Members.{contains-has, has-contains}
-use Rattle.world_rules.specs.Events.{Event, Joins, Bounces, log_of, wallet_owner, offers_of}
-use Rattle.world_rules.specs.World.{Node, World, is_wallet_role, owner_of_node}
-use Rattle.world_rules.specs.Declarations.{is_declared_account, is_caller, may_be_wallet}
-use Rattle.world_rules.specs.Steps.{event_of_call, Run, events_of}
-use Rattle.world_rules.proofs.RunLaws.{logs_are_of_events}
+use Rattle.world_laws.proofs.Basics.{◌≡◌, ◌⊎◌, ℕ, Bool, true, false, if◌then◌else◌, List, length, Some, inl, inr, refl, sym, ap, ◌∙◌, subst, slice_get, arith, Contains, list_any, eqb-true, true≢false, false≢true, common_steps, some_same, none_some}
+use Rattle.world_laws.proofs.CoinWords.{Owner, RootCall, Answer, tests_by, rules_of, answer_to, is_accepted, contains-has, has-contains}
+use Rattle.world_laws.proofs.NodeWords.{WalletIdentity, owner_of}
+use Rattle.world_laws.proofs.WorldWords.{Event, Joins, Bounces, log_of, wallet_owner, offers_of, Node, World, is_wallet_role, owner_of_node, is_declared_account, is_caller, may_be_wallet, event_of_call, Run, events_of, logs_are_of_events, Line, IsRun, starts_by, deposits_by, LegalDeclaration, IsLegalEvent, IsLegal, Origin, Plain, Deposits, Raw, Offered, IsFrom}
 use Rattle.world_rules.proofs.OfferLaws.{offers_are_of_events}
-use Rattle.schedule_text.specs.declared.line.Line.{Line}
-use Rattle.world_laws.specs.Headline.{IsRun}
-use Rattle.world_laws.specs.Legal.{starts_by, deposits_by, LegalDeclaration, IsLegalEvent, IsLegal}
-use Rattle.world_laws.proofs.Lists.{some_same, none_some}
-use Rattle.world_rules.specs.Acts.{Origin, Plain, Deposits, Raw, Offered}
-use Rattle.world_rules.specs.Evidence.{IsFrom}
 use Rattle.world_laws.proofs.Holders.{holders, IsHeld, held-wallet, IsKnown, unknown-none}
 use Rattle.world_laws.proofs.Identities.{wallet-node}
 use Rattle.world_laws.proofs.Keeps.{Keeps, plain-moves, offered-has, raw-moves, holder-is, held-by, node-at, not-there, next-unknown, is-offer, account-new, not-held, runs-keep}
@@ -82,10 +63,7 @@ module _ (events : List Event) (world : World) (behind : IsBehind events world) 
       (subst (IsHeld (holders world.nodes)) (sym own) (own-held w me me_is))) ∙ from.0))
   from-offered call (Offered place) from w me me_is start =
       let by = (is-offer events world behind.keeps place call from.0 from.1).starts me.account start in
-      let here : place.number ≡ w = one-account w place.number me place.node me_is from.0 by.0 by.1 in
-      subst (λ m. Contains (offers_of events m) call) here
-      (subst (λ (calls : List RootCall). Contains calls call) (behind.offers place.number place.node from.0)
-      (has-contains place.node.offers call (offered-has from.1.0 place.node call from.1.1)))
+      grind (arith, common_steps, one-account, has-contains, offered-has)
 
   -- the event of a call that is entered is legal
   pub legal-entered : (dig : List ℕ → List ℕ) (call : RootCall) (origin : Origin) → IsFrom world call origin
@@ -110,9 +88,7 @@ module _ (events : List Event) (world : World) (behind : IsBehind events world) 
             accepted = sym by_log ∙ is;
             offered = grind (arith, has-contains, offered_left, contains-has, from-offered, start-any);
           })
-      by false is =
-          subst (λ b. IsLegalEvent (tests_by dig) (rules_of world.chain) events
-          (if b then Joins call else Bounces call)) (sym is) (sym by_log ∙ is)
+      by false is = grind (arith, common_steps, by_log)
 
   -- ---- declarations
 

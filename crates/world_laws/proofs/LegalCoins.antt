@@ -1,56 +1,12 @@
 -- What a wallet's accepts, sends and reclaims are: each is legal after the events that say what its records are.
-use Rattle.std.proofs.Common.{◌≡◌, ℕ, zero, suc, ◌^◌, ◌<◌, ◌≤◌, ◌==◌, ◌&&◌, not, Bool, true, false, if◌then◌else◌, List, [], ◌∷◌, ◌++◌, length, map, Option, Some, None, Ok, inl, inr, refl, sym, ap, ◌∙◌, subst, slice_get, arith}
-use Rattle.std.specs.Prelude.{Result, IfSome, reverse, unwrap_or}
-use Rattle.std.specs.List.{list_any}
-use Rattle.std.specs.Option.{option_map_or}
-use Rattle.std.specs.Result.{result_ok}
-use Rattle.std.proofs.lemmas.Bool.{cases_eq, eqb-true, eq-eqb, ne_eqb, and_parts, not-true, not-false, ltb-false, false_from_ne_true, false≢true, true≢false}
-use Rattle.std.proofs.lemmas.List.{reverse-append, length-reverse}
-use Rattle.std.proofs.lemmas.Grind.{common_steps}
-use Rattle.lms_sign.specs.Tree.{signature_of}
-use Rattle.node_journal.specs.Effect.{first_cause}
-use Rattle.plasma_tx.specs.declared.owner.Owner.{Owner}
-use Rattle.plasma_tx.specs.declared.body.Body.{Body}
-use Rattle.plasma_tx.specs.declared.links.Links.{Links}
-use Rattle.plasma_tx.specs.declared.call.RootCall.{RootCall}
-use Rattle.plasma_tx.specs.declared.views.ExitView.{ExitView}
-use Rattle.plasma_tx.specs.Links.{last_owner_of}
-use Rattle.plasma_tx.specs.Spelling.{IsOwner, IsBody, body_text, body_at_start}
-use Rattle.plasma_tx.specs.Views.{blocks, exits_of, is_withdrawn}
-use Rattle.plasma_tx.specs.Shown.{Rules, tests_by}
-use Rattle.coin_history.specs.declared.bundle.Bundle.{Bundle}
-use Rattle.coin_history.specs.Bundles.{bundle_in}
-use Rattle.coin_history.specs.Checking.{absence_of}
-use Rattle.coin_history.specs.History.{IsHistory, IsAbsent}
+use Rattle.world_laws.proofs.Basics.{◌≡◌, ℕ, zero, suc, ◌^◌, ◌<◌, ◌≤◌, ◌==◌, ◌&&◌, not, Bool, true, false, List, [], ◌∷◌, ◌++◌, length, map, Option, Some, None, Ok, refl, sym, ap, ◌∙◌, subst, slice_get, arith, Result, IfSome, reverse, unwrap_or, list_any, option_map_or, result_ok, cases_eq, eqb-true, eq-eqb, ne_eqb, and_parts, not-true, not-false, ltb-false, false_from_ne_true, false≢true, true≢false, reverse-append, length-reverse, common_steps, some_same, none_some}
+use Rattle.world_laws.proofs.CoinWords.{signature_of, Owner, Body, Links, RootCall, ExitView, last_owner_of, IsOwner, IsBody, body_text, body_at_start, blocks, exits_of, is_withdrawn, Rules, tests_by, Bundle, bundle_in, absence_of, IsAbsent, LeafRecord, Sending, Held, is_noted, is_owner, spends_tip, sends_by, held_is, sending_is, kept_coins_are_held}
+use Rattle.world_laws.proofs.NodeWords.{first_cause, Accepted, Sent, WalletRefusal, links_handed, first_block, owner_of, notes_of, secret_of, leaves_in, sent_body, WalletRecords, WalletEffect, unless, who, noted, used, coin_state, standing_causes, accept_causes, accept_effect, sent_by, send_effect, last_of, reclaim_from, reclaim_effect, wallet-parts, held-tip, SendEnds, Refused, Sends, send_ends}
+use Rattle.world_laws.proofs.WorldWords.{Event, log_of, wallet_owner, accepted, bound_by, leaf_at, signed_away_by, is_sent_from, bundle_read, holds_with, holds, AreKept, said, are_kept, KeptWallet, state-me, body-signed, words, push-same, push-other, left_by, is_left, LegalAccept, LegalBinding, LegalReclaim}
+use Rattle.world_laws.proofs.HeldCoins.{owner-is}
 use Rattle.coin_history.proofs.HistoryAbsent.{absences_are_found}
-use Rattle.wallet_core.specs.declared.notes.LeafRecord.{LeafRecord}
-use Rattle.wallet_core.specs.declared.coin_state.CoinState.TheVariants.{Sending, Held}
-use Rattle.wallet_core.specs.State.{is_noted, is_owner, spends_tip, sends_by}
-use Rattle.wallet_core.proofs.StateLaws.{held_is, sending_is, kept_coins_are_held}
-use Rattle.node_rules.specs.declared.answers.Accepted.{Accepted}
-use Rattle.node_rules.specs.declared.answers.Sent.{Sent}
 use Rattle.node_rules.specs.declared.answers.Reclaimed.{Reclaimed}
-use Rattle.node_rules.specs.declared.refusal.WalletRefusal.{WalletRefusal}
-use Rattle.node_rules.specs.Kept.{links_handed, first_block}
-use Rattle.node_rules.specs.WalletRecords.{owner_of, notes_of, secret_of, leaves_in}
-use Rattle.node_rules.specs.WalletCommandLaws.{sent_body}
-use Rattle.node_rules.specs.Wallet.{WalletRecords, WalletEffect, unless, who, noted, used, coin_state, standing_causes, accept_causes, accept_effect, sent_by, send_effect, last_of, reclaim_from, reclaim_effect}
-use Rattle.node_rules.proofs.WalletGrow.{wallet-parts}
 use Rattle.node_rules.proofs.WalletTips.{tag-long, tip-fits}
-use Rattle.node_rules.proofs.WalletRole.{held-tip}
-use Rattle.world_rules.specs.Events.{Event, log_of, wallet_owner, accepted, bound_by, leaf_at, signed_away_by, is_sent_from}
-use Rattle.world_rules.specs.OrderEvents.{bundle_read}
-use Rattle.world_rules.specs.Safety.{holds_with, holds}
-use Rattle.world_rules.specs.Laws.{AreKept}
-use Rattle.world_rules.proofs.Said.{said}
-use Rattle.world_rules.proofs.HeldSame.{are_kept}
-use Rattle.world_rules.proofs.KeptWallet.{KeptWallet, state-me}
-use Rattle.node_replies.proofs.WalletEnds.{SendEnds, Refused, Sends, send_ends}
-use Rattle.world_rules.proofs.WalletSends.{body-signed, words}
-use Rattle.world_rules.proofs.Runs.{push-same, push-other}
-use Rattle.world_laws.specs.Legal.{left_by, is_left, LegalAccept, LegalBinding, LegalReclaim}
-use Rattle.world_laws.proofs.Lists.{some_same, none_some}
-use Rattle.world_laws.proofs.Bound.{owner-is}
 use Rattle.world_laws.proofs.Handed.{read-rising, handed-history}
 use Rattle.world_laws.proofs.AcceptsShown.{node_with}
 
@@ -96,14 +52,7 @@ leaf-got (body ∷ bodies) q =
     let front : slice_get (reverse (body ∷ bodies)) q ≡ slice_get (reverse bodies ++ body ∷ []) q =
     ap (λ (l : List Body). slice_get l q) (reverse-append (body ∷ []) bodies) in
     let long : length (reverse bodies) ≡ length bodies = length-reverse bodies in
-    elim (cases_eq q (length bodies)) [
-      | inl here ↦
-          front ∙ ap (slice_get (reverse bodies ++ body ∷ [])) (here ∙ sym long) ∙ push-same (reverse bodies) body
-          ∙ ap (λ (b : Bool). if b then Some body else leaf_at q bodies) (sym (eq-eqb q (length bodies) here))
-      | inr apart ↦
-          front ∙ push-other (reverse bodies) body q (λ same. apart (sym same ∙ long)) ∙ leaf-got bodies q
-          ∙ ap (λ (b : Bool). if b then Some body else leaf_at q bodies) (sym (ne_eqb q (length bodies) apart))
-    ]
+    grind (arith, common_steps, leaf-got bodies q, cases_eq, push-same, eq-eqb, push-other, ne_eqb)
 
 -- the body of a leaf is that of its record
 body-got : (leaves : List LeafRecord) (q : ℕ) (leaf : LeafRecord) → slice_get leaves q ≡ Some leaf
@@ -145,19 +94,7 @@ module _ (dig : List ℕ → List ℕ) (rules : Rules) (events : List Event) (lo
       let clear = accept-cleared links (noted dig wallet).me log none in
       let history = handed-history dig rules log bytes links
       (ap (λ tag. links_handed dig tag log bytes) (sym tag_is) ∙ handed) in
-      let coin : links.coin ≡ (bundle_read bytes).coin = ap (λ (l : Links). l.coin) history.shown in
-      record {
-        me = me;
-        me_is = are.owner;
-        links = links;
-        history = subst (λ l. IsHistory (tests_by dig) rules l (bundle_read bytes) links) log_is
-            history;
-        mine = owner-is (last_owner_of links) (noted dig wallet).me clear.0 ∙ me-noted;
-        not_withdrawn = ap (λ l. is_withdrawn l (bundle_read bytes).coin) (sym log_is)
-            ∙ ap (is_withdrawn log) (sym coin) ∙ clear.1;
-        none_stands = ap (λ l. exits_of l (bundle_read bytes).coin) (sym log_is)
-            ∙ ap (exits_of log) (sym coin) ∙ clear.2;
-      }
+      grind (arith, common_steps, are, owner-is, me-noted)
 
   pub legal-accepted : (bytes : List ℕ) (taken : Accepted) → (accept_effect dig wallet log bytes).answer ≡ Ok taken
       → LegalAccept (tests_by dig) rules events n (bundle_read bytes)
@@ -173,11 +110,8 @@ module _ (dig : List ℕ → List ℕ) (rules : Rules) (events : List Event) (lo
   held-binding coin tip to last held = record {
     not_sent = held-unsent (log_of events) (wallet_owner events n) (signed_away_by events n) (accepted events n)
         coin tip
-        (are.held coin tip
-        ∙ kept_coins_are_held (noted dig wallet) (leaves_in wallet.leaves) log coin tip (inl held));
-    not_left = false_from_ne_true (is_left (left_by events n) coin tip)
-        (λ is. true≢false (sym (left coin tip is)
-        ∙ ((held_is (noted dig wallet) (leaves_in wallet.leaves) log coin tip).0 held).2));
+        (grind (arith, common_steps, are, kept_coins_are_held));
+    not_left = grind (arith, common_steps, false_from_ne_true, true≢false, held_is);
   }
 
   pub legal-bound : (coin : ℕ) (to : Owner) (last : Option ℕ) (sent : Sent) → coin < 2 ^ 64 → IsOwner to
@@ -250,24 +184,7 @@ module _ (dig : List ℕ → List ℕ) (rules : Rules) (events : List Event) (lo
           → option_map_or (λ leaf. leaf.body.last) found None ≡ Some last
           → LegalReclaim (tests_by dig) events n taken.q bundle
       by None none sends has = absurd (cc has)
-      by (Some leaf) some sends has =
-          let kept_leaf = not (list_any (λ other. other == q) gone) in
-          let spends = (and_parts (spends_tip bundle.coin tip leaf) kept_leaf sends).0 in
-          let parts = and_parts (leaf.body.coin == bundle.coin) (leaf.body.parent == tip) spends in
-          let parent : leaf.body.parent ≡ tip = eqb-true leaf.body.parent tip parts.1 in
-          record {
-            me = me;
-            me_is = are.owner;
-            body = leaf.body;
-            leaf_is = ap (λ (t : Reclaimed). leaf_at t.q (bound_by events n)) is.taken_is ∙ leaf-body q leaf some;
-            coin_is = eqb-true leaf.body.coin bundle.coin parts.0;
-            last = last;
-            last_is = has;
-            reached = subst (λ l. last ≤ blocks l) log_is is.reached;
-            absent = subst (λ l. IsAbsent (tests_by dig) l bundle.coin leaf.body.parent last bundle.openings) log_is
-                (subst (λ (p : ℕ). IsAbsent (tests_by dig) log bundle.coin p last bundle.openings) (sym parent) absent);
-            none_stands = ap (λ l. exits_of l bundle.coin) (sym log_is) ∙ is.none_stands;
-          }
+      by (Some leaf) some sends has = grind (arith, common_steps, gone, and_parts, eqb-true, are, leaf-body, absent)
 
   pub legal-reclaimed : (bytes : List ℕ) (taken : Reclaimed) → (reclaim_effect dig wallet log bytes).answer ≡ Ok taken
       → LegalReclaim (tests_by dig) events n taken.q (bundle_read bytes)

@@ -1,28 +1,9 @@
 -- Each event of a run is legal after those before it, but for those that are left: what a wallet does with its coins.
 -- Where these are legal too, all events of every run are.
-use Rattle.std.proofs.Common.{◌≡◌, ℕ, true, List, [], ◌∷◌, Some, None, Ok, refl, sym, subst, slice_get, arith, rules}
-use Rattle.std.proofs.lemmas.Grind.{common_steps}
-use Rattle.plasma_tx.specs.declared.call.RootCall.{RootCall}
-use Rattle.plasma_tx.specs.Shown.{Tests, Rules, tests_by, rules_of}
-use Rattle.schedule_text.specs.declared.line.Line.{Line}
-use Rattle.node_rules.specs.declared.answers.Accepted.{Accepted}
-use Rattle.node_rules.specs.Watcher.{who_is, guard_effect}
-use Rattle.node_replies.specs.declared.order.NodeOrder.{NodeOrder}
-use Rattle.world_rules.specs.Events.{Event, Accepts, Binds, TakesBack, Idle, log_of, wallet_owner, accepted}
-use Rattle.world_rules.specs.World.{Node, World, wallet_of, is_wallet_role, is_watcher_role}
-use Rattle.world_rules.specs.Deeds.{Deed}
-use Rattle.world_rules.specs.OrderEvents.{bundle_read}
-use Rattle.world_rules.specs.Steps.{without_offers, Run, events_of}
-use Rattle.world_rules.proofs.KeptWorld.{KeptWorld}
-use Rattle.world_rules.proofs.OrderEnds.{OrderEnds, Leaving, Watching, Guarding, GuardWatching, Sealing, order-ends}
-use Rattle.world_rules.proofs.Lives.{begun}
-use Rattle.world_rules.proofs.Said.{said}
-use Rattle.world_rules.specs.Acts.{NewWallet, Act, Adds, Enters, Orders, End, Whole, Crashed, Kept, Lost, end_of, event_after, deed_at, done}
-use Rattle.world_rules.specs.Evidence.{has_order, IsActIn}
-use Rattle.world_rules.proofs.Lives.{line_effect}
-use Rattle.world_rules.proofs.Told.{rules-stay}
-use Rattle.world_laws.specs.Headline.{IsRun}
-use Rattle.world_laws.specs.Legal.{LegalAccept, LegalGuard, LegalBinding, LegalReclaim, IsLegalEvent, IsLegal}
+use Rattle.world_laws.proofs.Basics.{◌≡◌, ℕ, true, List, [], ◌∷◌, Some, None, Ok, refl, sym, subst, slice_get, arith, rules, common_steps}
+use Rattle.world_laws.proofs.CoinWords.{RootCall, Tests, Rules, tests_by, rules_of}
+use Rattle.world_laws.proofs.NodeWords.{Accepted, who_is, guard_effect, NodeOrder}
+use Rattle.world_laws.proofs.WorldWords.{Line, Event, Accepts, Binds, TakesBack, Idle, log_of, wallet_owner, accepted, Node, World, wallet_of, is_wallet_role, is_watcher_role, Deed, bundle_read, without_offers, Run, events_of, KeptWorld, OrderEnds, Leaving, Watching, Guarding, GuardWatching, Sealing, order-ends, begun, said, NewWallet, Act, Adds, Enters, Orders, End, Whole, Crashed, Kept, Lost, end_of, event_after, deed_at, done, has_order, IsActIn, line_effect, begun, rules-stay, IsRun, LegalAccept, LegalGuard, LegalBinding, LegalReclaim, IsLegalEvent, IsLegal}
 use Rattle.world_laws.proofs.Acts.{IsNext, over_events}
 use Rattle.world_laws.proofs.Keeps.{is-watcher, own-tag, watcher-tag}
 use Rattle.world_laws.proofs.GuardsShown.{AreShown}

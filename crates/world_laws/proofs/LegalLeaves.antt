@@ -1,51 +1,14 @@
 -- What a wallet's leave and its watch offer is legal: the start of the exit of a coin at its top, and what is due for
 -- the coins that it holds there.
-use Rattle.std.proofs.Common.{◌≡◌, ◌≢◌, ℕ, zero, suc, ◌+◌, ◌<◌, ◌≤◌, List, [], ◌∷◌, Option, Some, None, Ok, Err, inl, inr, sym, ap, ◌∙◌, subst, arith, rules}
-use Rattle.std.specs.Prelude.{Result}
-use Rattle.std.specs.List.{Contains, range_with_len}
-use Rattle.std.specs.Option.{option_map_or}
-use Rattle.std.proofs.lemmas.Bool.{cases_eq, ne_eqb}
-use Rattle.std.proofs.lemmas.Grind.{common_steps}
-use Rattle.plasma_tx.specs.declared.owner.Owner.{Owner}
-use Rattle.plasma_tx.specs.declared.links.Links.{Links}
-use Rattle.plasma_tx.specs.declared.call.RootCall.{RootCall}
-use Rattle.plasma_tx.specs.declared.call.RootCall.TheVariants.{Deposit}
-use Rattle.plasma_tx.specs.declared.views.CoinView.{CoinView}
-use Rattle.plasma_tx.specs.Views.{coins, coin_at}
-use Rattle.coin_history.specs.declared.bundle.Bundle.{Bundle}
-use Rattle.plasma_tx.specs.Shown.{Rules}
-use Rattle.plasma_tx.proofs.Bounds.{coin_at-le}
-use Rattle.watch_duty.specs.Duty.{due_of}
-use Rattle.node_rules.specs.declared.refusal.WalletRefusal.{WalletRefusal}
-use Rattle.node_rules.specs.declared.refusal.WalletRefusal.TheVariants.{NotHeld}
-use Rattle.node_rules.specs.Kept.{kept_links}
-use Rattle.node_rules.specs.Watcher.{due_for_kept}
-use Rattle.node_rules.specs.WalletRecords.{owner_of}
-use Rattle.wallet_core.specs.Laws.{IsTip}
-use Rattle.node_rules.specs.Wallet.{WalletRecords, who, noted, coin_state, kept_at, links_at, start_of, exit_start, leave_effect, due_at, due_in, watch_answer}
-use Rattle.node_rules.proofs.WalletRole.{links-some}
-use Rattle.watch_duty.proofs.Members.{Has, has-contains, contains-has, has-flat_map}
-use Rattle.world_rules.specs.Events.{Event, log_of, wallet_owner, accepted}
-use Rattle.world_rules.proofs.Said.{said}
-use Rattle.world_rules.proofs.KeptWallet.{KeptWallet}
-use Rattle.world_rules.proofs.HeldSame.{are_kept}
-use Rattle.world_laws.specs.Legal.{IsAtTop, IsGuarding, ShowsGuard, ShowsTip, LegalWatch, LegalLeave}
-use Rattle.world_laws.proofs.LegalWatches.{has-in-flat_map}
+use Rattle.world_laws.proofs.Basics.{◌≡◌, ◌≢◌, ℕ, zero, suc, ◌+◌, ◌<◌, ◌≤◌, List, Option, Some, None, Ok, inl, inr, sym, subst, arith, rules, ◌∙◌, [], Result, range_with_len, Contains, cases_eq, common_steps, has-in-flat_map, option_map_or}
+use Rattle.world_laws.proofs.CoinWords.{Owner, RootCall, coins, coin_at, Bundle, Rules, coin_at-le, IsTip, Has, has-contains, contains-has, has-flat_map, Links, due_of}
+use Rattle.world_laws.proofs.NodeWords.{WalletRefusal, kept_links, due_for_kept, owner_of, WalletRecords, who, noted, coin_state, links_at, exit_start, leave_effect, due_at, due_in, watch_answer, kept_at, links-some}
+use Rattle.world_laws.proofs.WorldWords.{Event, log_of, wallet_owner, accepted, said, KeptWallet, are_kept, IsGuarding, ShowsGuard, ShowsTip, LegalWatch, LegalLeave, coin_at-positive}
 use Rattle.world_laws.proofs.GuardsShown.{AreShown}
 use Rattle.world_laws.proofs.AcceptsShown.{node_with, accepted_in}
 use Rattle.world_laws.proofs.AtTops.{IsShownAt, IsHeldAt, held-at-tip, top-held, held-top, shown-at}
 
 -- ---- the coins of a log
-
-coin-first : (log : List RootCall) (c : ℕ) (made : CoinView) → coin_at log c ≡ Some made → 1 ≤ c
-unfolding coin_at coins
-coin-first [] c made is = absurd (cc is)
-coin-first (Deposit account amount key ∷ log) c made is =
-    elim (cases_eq c (coins log + 1)) [
-      | inl last ↦ omega (arith, last)
-      | inr other ↦ coin-first log c made (simp (ne_eqb c (coins log + 1) other) at is)
-    ]
-coin-first (call ∷ log) c made is = coin-first log c made is
 
 range-has : (a n x : ℕ) → a ≤ x → x < a + n → Has (range_with_len a n) x
 range-has a zero x low high = absurd (omega (arith, low, high))
@@ -55,7 +18,7 @@ range-has a (suc n) x low high = elim (cases_eq a x) [
 ]
 
 coin-among : (log : List RootCall) (c : ℕ) → coin_at log c ≢ None → Has (range_with_len 1 (coins log)) c
-coin-among log c there = grind (arith, common_steps, range-has, coin-first, coin_at-le)
+coin-among log c there = grind (arith, common_steps, range-has, coin_at-positive, coin_at-le)
 
 -- a start that is answered
 as_answer : RootCall → Result RootCall WalletRefusal
@@ -92,8 +55,7 @@ module _ (dig : List ℕ → List ℕ) (rules : Rules) (events : List Event) (lo
 
   -- what shows a coin that the wallet holds or leaves with
   shown : (c e : ℕ) → IsHeld c e → IsShownAt dig events tag n wallet c e
-  shown c e held =
-      shown-at dig events tag log log_is n wallet own accepts c e (held-tip-is c e held)
+  shown c e held = shown-at dig events tag log log_is n wallet own accepts c e (held-tip-is c e held)
 
   -- its links are those of what the wallet keeps
   links-shown : (c e : ℕ) (by : IsShownAt dig events tag n wallet c e)
@@ -118,20 +80,7 @@ module _ (dig : List ℕ → List ℕ) (rules : Rules) (events : List Event) (lo
       let by = shown c e held in
       let found = links-some dig wallet log c e (held-tip-is c e held).exists in
       let top = held-top dig events tag log log_is n wallet own c e held in
-      let start : start_of account e found.0 ≡ call = answer-same (start_of account e found.0) call
-      (ap (λ (o : Option Links). option_map_or (λ links. as_answer (start_of account e links)) o (Err NotHeld))
-      (sym found.1) ∙ is) in
-      record {
-        me = me;
-        me_is = me-is;
-        bundle = by.bundle;
-        shows = by.shows;
-        at_top = subst (λ a. IsAtTop events n (me) a by.bundle.tip) (sym by.coin_is)
-            (subst (IsAtTop events n (me) c) (sym by.tip_is) top);
-        links = found.0;
-        links_are = links-shown c e by ∙ found.1;
-        call_is = sym start ∙ ap (λ t. start_of account t found.0) (sym by.tip_is);
-      }
+      grind (arith, common_steps, answer-same, as_answer, me-is, links-shown)
 
   -- the start that a leave offers
   pub legal-left : (c : ℕ) (call : RootCall) → (leave_effect dig wallet log c).answer ≡ Ok call

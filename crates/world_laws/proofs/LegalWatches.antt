@@ -1,20 +1,9 @@
 -- What a watcher's watch offers is legal: it is what is due for the coins that it guards.
-use Rattle.std.proofs.Common.{◌≡◌, ℕ, true, List, [], ◌∷◌, slice_get, Option, Some, None, inl, inr, refl, sym, ap, ◌∙◌, subst, arith}
-use Rattle.std.specs.List.{Contains, list_any, flat_map}
-use Rattle.std.proofs.lemmas.Bool.{and_parts, eqb-true}
-use Rattle.std.proofs.lemmas.Grind.{common_steps}
-use Rattle.plasma_tx.specs.declared.owner.Owner.{Owner}
-use Rattle.plasma_tx.specs.declared.call.RootCall.{RootCall}
-use Rattle.plasma_tx.specs.Shown.{Rules, rules_of}
-use Rattle.coin_history.specs.declared.bundle.Bundle.{Bundle}
-use Rattle.node_rules.specs.Watcher.{who_is, is_of, guards_in, due_for_kept, watch_answer}
-use Rattle.watch_duty.proofs.Members.{Has, has-contains, contains-has, has-flat_map, has-left, has-right}
-use Rattle.world_rules.specs.Events.{Event, log_of, wallet_owner, is_bundle, guarded_by}
-use Rattle.world_rules.specs.World.{Node, World, is_watcher_role}
-use Rattle.world_rules.proofs.Said.{said}
-use Rattle.world_rules.proofs.KeptWorld.{KeptWorld}
-use Rattle.world_laws.specs.Legal.{IsGuarding, ShowsGuard, LegalWatch}
-use Rattle.world_laws.proofs.Lists.{any-some}
+use Rattle.world_laws.proofs.Basics.{◌≡◌, ℕ, true, List, slice_get, Option, Some, None, refl, sym, ap, ◌∙◌, subst, arith, Contains, list_any, flat_map, and_parts, eqb-true, common_steps, any-some, has-in-flat_map}
+use Rattle.world_laws.proofs.CoinWords.{Owner, RootCall, Rules, rules_of, Bundle, Has, has-contains, contains-has, has-flat_map}
+use Rattle.world_laws.proofs.NodeWords.{who_is, is_of, guards_in, due_for_kept}
+use Rattle.world_laws.proofs.WorldWords.{Event, log_of, wallet_owner, is_bundle, guarded_by, Node, World, is_watcher_role, said, KeptWorld, IsGuarding, ShowsGuard, LegalWatch}
+use Rattle.node_rules.specs.Watcher.{watch_answer}
 use Rattle.world_laws.proofs.Keeps.{Keeps, is-watcher, watcher-tag}
 use Rattle.world_laws.proofs.GuardsShown.{IsShown, AreShown}
 use Rattle.world_laws.proofs.NodeNotes.{AreNoted, noted-at}
@@ -24,13 +13,6 @@ due-same : (tag : List ℕ) (log : List RootCall) (account : ℕ) (bundles : Lis
     → (by : IsShown tag bundles kept)
     → due_for_kept tag log account by.bundle ≡ due_for_kept tag log account kept
 due-same tag log account bundles kept by = grind (arith, common_steps)
-
-pub has-in-flat_map : {X Y : Type 0} (f : X → List Y) (xs : List X) (x : X) (y : Y) → Has xs x → Has (f x) y
-    → Has (flat_map f xs) y
-has-in-flat_map f [] x y h there = absurd h
-has-in-flat_map f (z ∷ zs) x y (inl same) there =
-    has-left (f z) (flat_map f zs) y (subst (λ w. Has (f w) y) (sym same) there)
-has-in-flat_map f (z ∷ zs) x y (inr h) there = has-right (f z) (flat_map f zs) y (has-in-flat_map f zs x y h there)
 
 module _ (tag : List ℕ) (log : List RootCall) (account : ℕ) (bundles guards : List Bundle)
     (shown : AreShown tag bundles guards) where
@@ -88,15 +70,13 @@ module _ (tag : List ℕ) (log : List RootCall) (account : ℕ) (bundles guards 
           tip_is = by.tip ∙ f.tip_is;
           shows = shows by.bundle by.has;
           due = λ call due. due-offered f.kept f.has call
-              (subst (λ t. Contains (due_for_kept t log account by.bundle) call) tag_is
-              (subst (λ l. Contains (due_for_kept rules.tag l account by.bundle) call) (sym log_is) due));
+              (grind (arith, common_steps));
         };
     only = λ call is.
         let by = offered-due call is in record {
           bundle = by.bundle;
           shows = shows by.bundle by.has;
-          due = subst (λ l. Contains (due_for_kept rules.tag l account by.bundle) call) log_is
-              (subst (λ t. Contains (due_for_kept t log account by.bundle) call) (sym tag_is) by.due);
+          due = grind (arith, common_steps);
         };
   }
     where

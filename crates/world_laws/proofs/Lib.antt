@@ -1,3 +1,9 @@
+pub mod Basics
+pub mod CoinWords
+pub mod NodeWords
+pub mod OperatorWords
+pub mod WorldWords
+pub mod HeldCoins
 pub mod Lists
 pub mod Clash
 pub mod Walk

@@ -1,13 +1,10 @@
 -- Lists: what is in one, what holds of each, and finding.
-use Rattle.std.proofs.Common.{◌≡◌, ◌⊎◌, ℕ, zero, suc, ◌||◌, ◌==◌, ◌&&◌, not, Bool, true, false, if◌then◌else◌, List, [], ◌∷◌, ◌++◌, map, Some, None, inl, inr, refl, sym, ap, ◌∙◌, subst, find, arith}
-use Rattle.std.specs.Prelude.{slice_get}
-use Rattle.std.specs.List.{AllByRecursion, list_any, list_all}
+use Rattle.world_laws.proofs.CoinWords.{RootCall, Challenge, Exit, is_exit, with_exit_changed, with_answer_at, challenge_at, exits, exit_at, exits-distinct, Has, any-has, only-found, has-left, has-right}
+use Rattle.std.proofs.Common.{◌≡◌, ◌⊎◌, ℕ, zero, suc, ◌||◌, ◌==◌, ◌&&◌, not, Bool, true, false, if◌then◌else◌, List, [], ◌∷◌, ◌++◌, map, Some, None, inl, inr, refl, sym, ap, ◌∙◌, subst, find, arith, filter, cond}
+use Rattle.std.specs.Prelude.{slice_get, is_none}
+use Rattle.std.specs.List.{AllByRecursion, list_any, list_all, flat_map}
 use Rattle.std.proofs.lemmas.Bool.{eqb-true, and_parts, and_from, or_cases, true≢false, false≢true, false_from_ne_true}
 use Rattle.std.proofs.lemmas.Grind.{common_steps}
-use Rattle.plasma_tx.specs.declared.call.RootCall.{RootCall}
-use Rattle.plasma_tx.specs.Views.{Challenge, Exit, is_exit, with_exit_changed, with_answer_at, challenge_at, exits, exit_at}
-use Rattle.plasma_tx.proofs.RuleNames.{exits-distinct}
-use Rattle.watch_duty.proofs.Members.{Has, any-has, only-found}
 
 pub some_same : {A : Type 0} (x y : A) → Some x ≡ Some y → x ≡ y
 some_same x y e = cc
@@ -23,8 +20,7 @@ and-seen true false off on = absurd (true≢false off)
 and-seen false b off on = absurd (false≢true on)
 
 pub and-off : (a b : Bool) → (a && b) ≡ false → a ≡ true → b ≡ false
-and-off true b off on = off
-and-off false b off on = absurd (false≢true on)
+and-off a b off on = grind (arith, common_steps, false≢true)
 
 -- ---- lists
 
@@ -47,6 +43,27 @@ all-from P (x ∷ xs) h = (h x (inl refl), all-from P xs (λ y is. h y (inr is))
 pub append-assoc : {A : Type 0} (xs ys zs : List A) → xs ++ (ys ++ zs) ≡ (xs ++ ys) ++ zs
 append-assoc [] ys zs = refl
 append-assoc (x ∷ xs) ys zs = ap (λ l. x ∷ l) (append-assoc xs ys zs)
+
+pub has-in-flat_map : {X Y : Type 0} (f : X → List Y) (xs : List X) (x : X) (y : Y) → Has xs x → Has (f x) y
+    → Has (flat_map f xs) y
+has-in-flat_map f [] x y h there = absurd h
+has-in-flat_map f (z ∷ zs) x y (inl same) there =
+    has-left (f z) (flat_map f zs) y (subst (λ w. Has (f w) y) (sym same) there)
+has-in-flat_map f (z ∷ zs) x y (inr h) there = has-right (f z) (flat_map f zs) y (has-in-flat_map f zs x y h there)
+
+pub has-kept : {X : Type 0} (p : X → Bool) (xs : List X) (x : X) → Has xs x → p x ≡ true → Has (filter p xs) x
+has-kept p [] x h is = absurd h
+has-kept p (y ∷ ys) x (inl same) is =
+    subst (λ b. Has (cond b (y ∷ filter p ys) (filter p ys)) x) (sym (ap p same ∙ is)) (inl same)
+has-kept p (y ∷ ys) x (inr h) is = grind (arith, common_steps, has-kept p ys x h is)
+
+pub none-any : {X : Type 0} (p : X → Bool) (xs : List X) → is_none (find p xs) ≡ true → list_any p xs ≡ false
+none-any p [] none = refl
+none-any p (x ∷ xs) none =
+    (elim (p x) as (λ b. is_none (if b then Some x else find p xs) ≡ true → (b || list_any p xs) ≡ false) [
+      | true ↦ λ wrong. absurd (false≢true wrong)
+      | false ↦ λ rest. none-any p xs rest
+    ]) none
 
 -- what is found is in the list, and passes
 pub find-has : {A : Type 0} (p : A → Bool) (xs : List A) (x : A) → find p xs ≡ Some x → Has xs x × (p x ≡ true)

@@ -1,11 +1,7 @@
 -- Small lists of events on which it is computed which ticks go unseen. On most of them nobody attends the tick.
-use Rattle.std.proofs.Common.{◌≡◌, Bool, true, false, List, [], ◌∷◌, refl}
-use Rattle.plasma_tx.specs.declared.call.Shown.TheVariants.{Deposit as AtDeposit, Spend}
-use Rattle.plasma_tx.specs.declared.call.RootCall.TheVariants.{Fund, Tick, StartSpend, After, Between, Before, Respond}
-use Rattle.plasma_tx.specs.Views.{now, blocks, coins, coin_at, responses, exits, exit_at, is_withdrawn}
-use Rattle.world_rules.specs.Events.{Event, Joins, Bounces, Guards, Releases, Binds, Watches, Other, log_of, wallet_owner, accepted, bound_by, taken_back, not_taken, guarded_by, watchers}
-use Rattle.world_rules.specs.Safety.{holds, is_quiet, is_guarded, is_attended}
-use Rattle.world_laws.specs.Looked.{has_look, is_looked_after, has_recent_look, is_looked_often}
+use Rattle.world_laws.proofs.Basics.{◌≡◌, Bool, true, false, List, [], ◌∷◌, refl}
+use Rattle.world_laws.proofs.CoinWords.{AtDeposit, Spend, Fund, Tick, StartSpend, After, Between, Before, Respond, now, blocks, coins, coin_at, responses, exits, exit_at, is_withdrawn}
+use Rattle.world_laws.proofs.WorldWords.{Event, Joins, Bounces, Guards, Releases, Binds, Watches, Other, log_of, wallet_owner, accepted, bound_by, taken_back, not_taken, guarded_by, watchers, holds, is_quiet, is_guarded, is_attended, has_look, is_looked_after, has_recent_look, is_looked_often}
 use Rattle.world_laws.proofs.Samples.{bundle, blank, sends, spend, deposited, received, started}
 use Rattle.world_laws.proofs.OwnExitSamples.{own_started, challenged, answered}
 

@@ -1,35 +1,12 @@
 -- What a look shows: of an exit that somebody looked after, another account's is challenged at the tip while its window
 -- is open, and the challenges of the own one are answered in their time. So a tick that doesn't go unseen keeps what
 -- holds of each exit of a held coin.
-use Rattle.std.proofs.Common.{◌≡◌, ◌≢◌, ◌⊎◌, ℕ, ◌+◌, ◌<◌, ◌==◌, ◌&&◌, not, Bool, true, false, if◌then◌else◌, List, [], ◌∷◌, inl, inr, refl, sym, ap, ◌∙◌, subst, arith, rules}
-use Rattle.std.specs.Prelude.{is_none}
-use Rattle.std.specs.List.{list_any}
-use Rattle.std.proofs.lemmas.Bool.{eq-eqb, lt-ltb, le-leb, and_parts, and_from, or_cases, or_from, not-true, not_from_false, true≢false, false≢true}
-use Rattle.std.proofs.lemmas.Grind.{common_steps}
-use Rattle.plasma_tx.specs.declared.opening.RawOpening.{RawOpening}
-use Rattle.plasma_tx.specs.declared.call.RootCall.{RootCall}
-use Rattle.plasma_tx.specs.declared.call.RootCall.TheVariants.{Tick, After, Between, Before, Respond}
-use Rattle.plasma_tx.specs.declared.views.CoinView.{CoinView}
-use Rattle.plasma_tx.specs.Views.{now, block_of, Challenge, Exit, exits, challenge_at, exit_view}
-use Rattle.plasma_tx.specs.Laws.{is_start, is_end, is_respond}
-use Rattle.plasma_tx.specs.declared.rules.TheConstants.{CHALLENGE_WINDOW, RESPONSE_WINDOW}
-use Rattle.plasma_tx.specs.Shown.{Tests, Rules, tests_by}
-use Rattle.watch_duty.specs.Duty.{tip_shown}
-use Rattle.watch_duty.proofs.Members.{Has, all-has}
-use Rattle.watch_duty.proofs.Dues.{IsDue, DueAfter, DueBetween, DueBefore, DueRespond, due_for-due}
-use Rattle.world_rules.specs.Laws.{IsDigest}
-use Rattle.world_rules.specs.Events.{Event, Joins, Watches, log_of}
-use Rattle.world_rules.specs.Exhibits.{seen, strings_of, has_clash, is_forged}
-use Rattle.world_rules.specs.Safety.{is_met, meets_challenge, is_mine}
-use Rattle.world_laws.specs.Legal.{IsLegal}
-use Rattle.world_laws.specs.Looked.{is_before, is_on_exit, fulfils, are_fulfilled, is_guardian, has_look, exit_has_look, challenge_has_look, passes_unseen, goes_unseen}
-use Rattle.world_laws.proofs.Lists.{and-seen, and-off, all-from, any-none, passes-has, any-either}
-use Rattle.world_laws.proofs.Clash.{one_leaf}
-use Rattle.world_laws.proofs.Bound.{Holding}
-use Rattle.world_laws.proofs.Held.{HeldAt}
+use Rattle.world_laws.proofs.Basics.{◌≡◌, ◌≢◌, ◌⊎◌, ℕ, ◌+◌, ◌<◌, ◌==◌, ◌&&◌, not, Bool, true, false, List, [], ◌∷◌, inl, inr, refl, sym, ap, ◌∙◌, subst, arith, rules, is_none, list_any, eq-eqb, lt-ltb, le-leb, and_parts, and_from, or_cases, or_from, not-true, not_from_false, true≢false, false≢true, common_steps, and-seen, and-off, all-from, any-none, passes-has, any-either}
+use Rattle.world_laws.proofs.CoinWords.{RawOpening, RootCall, Tick, Respond, CoinView, now, block_of, Challenge, Exit, exits, challenge_at, exit_view, is_start, is_end, is_respond, CHALLENGE_WINDOW, RESPONSE_WINDOW, Tests, Rules, tests_by, tip_shown, Has, all-has, IsDue, DueAfter, DueBetween, DueBefore, DueRespond, due_for-due}
+use Rattle.world_laws.proofs.WorldWords.{IsDigest, Event, Joins, Watches, log_of, seen, strings_of, has_clash, is_forged, is_met, meets_challenge, is_mine, IsLegal, is_before, is_on_exit, fulfils, are_fulfilled, is_guardian, has_look, exit_has_look, challenge_has_look, passes_unseen, goes_unseen, IfOf, AllWatched}
+use Rattle.world_laws.proofs.HeldCoins.{one_leaf, Holding, HeldAt}
 use Rattle.world_laws.proofs.DueCalls.{OffersDue, Due, due-offered}
 use Rattle.world_laws.proofs.Guards.{holds-from, watch-due, guardian-guards}
-use Rattle.world_laws.specs.Invariant.{IfOf, AllWatched}
 use Rattle.world_laws.proofs.Watched.{ticked-watched}
 use Rattle.world_laws.proofs.Earlier.{stood-before, clock-before}
 use Rattle.world_laws.proofs.Steps.{others-due, mine-due}
@@ -48,8 +25,7 @@ module _ (tests : Tests) (rules : Rules) (events : List Event) (c : ℕ) (made :
     (there : Has (exits (log_of events)) x) (c_is : x.coin ≡ c) (since : List RootCall)
     (unended : list_any (is_end c x.block) since ≡ false) where
   not-ended : list_any (is_end g.links.coin x.block) since ≡ true → ⊥
-  not-ended is =
-      true≢false (sym is ∙ ap (λ k. list_any (is_end k x.block) since) g.good.coin_is ∙ unended)
+  not-ended is = true≢false (sym is ∙ ap (λ k. list_any (is_end k x.block) since) g.good.coin_is ∙ unended)
 
   -- what is due for the exit was fulfilled, so the exit was challenged at the tip; if it isn't at the tip
   exit-fulfilled : are_fulfilled (is_on_exit c x.block) since offers ≡ true → (call : RootCall)
@@ -65,18 +41,13 @@ module _ (tests : Tests) (rules : Rules) (events : List Event) (c : ℕ) (made :
 
       by_due : IsDue (log_of events) g.account g.links (exit_view x) call → Has offers call
           → (list_any (is_before c x.block e) since ≡ true) ⊎ (x.block ≡ e)
-      by_due (DueAfter link next early same) has =
-          absurd (not-ended (fulfilled-one (is_on_exit c x.block) since offers fulfilled
-          (After g.account g.links.coin x.block link.opening) (subst (λ k. Has offers k) (sym same) has) on-it))
+      by_due (DueAfter link next early same) has = absurd (grind (arith, common_steps, not-ended, fulfilled-one, on-it))
       by_due (DueBetween link later next early same) has =
-          absurd (not-ended (fulfilled-one (is_on_exit c x.block) since offers fulfilled
-          (Between g.account g.links.coin x.block link.opening) (subst (λ k. Has offers k) (sym same) has) on-it))
+          absurd (grind (arith, common_steps, not-ended, fulfilled-one, on-it))
       by_due (DueBefore later free early same) has =
           elim (any-either (is_end g.links.coin x.block)
           (is_before g.links.coin x.block (block_of (tip_shown g.links))) since
-          (fulfilled-one (is_on_exit c x.block) since offers fulfilled
-          (Before g.account g.links.coin x.block (tip_shown g.links)) (subst (λ k. Has offers k) (sym same) has)
-          on-it)) [
+          (grind (arith, common_steps, fulfilled-one, on-it))) [
             | inl ended ↦ absurd (not-ended ended)
             | inr challenged ↦ inl
                 ((λ i. list_any (is_before (sym g.good.coin_is i) x.block (sym g.shown_is i)) since) ∙ challenged)
@@ -90,11 +61,7 @@ module _ (tests : Tests) (rules : Rules) (events : List Event) (c : ℕ) (made :
       → list_any (is_respond c e n) since ≡ true
   challenge-fulfilled n fulfilled at_tip ch n_is spend has =
       elim (any-either (is_end g.links.coin x.block) (is_respond g.links.coin x.block ch.block) since
-      (fulfilled-one (is_respond c e n) since offers fulfilled
-      (Respond g.account g.links.coin x.block ch.block spend) has
-      (and_from ((g.links.coin == c) && (x.block == e)) (ch.block == n)
-      (and_from (g.links.coin == c) (x.block == e) (eq-eqb g.links.coin c g.good.coin_is) (eq-eqb x.block e at_tip))
-      (eq-eqb ch.block n n_is)))) [
+      (grind (arith, common_steps, fulfilled-one, and_from, eq-eqb))) [
         | inl ended ↦ absurd (not-ended ended)
         | inr answered ↦
             (λ i. list_any (is_respond (sym g.good.coin_is i) (sym at_tip i) (sym n_is i)) since) ∙ answered
@@ -142,8 +109,7 @@ module _ (dig : List ℕ → List ℕ) (digest : IsDigest dig) (rules : Rules) (
       (has_look (is_start c b) (is_on_exit c b) (call ∷ since) events w c e) look in
       let before = held-still (Joins call) events legal h x there c_is in
       elim (stood-before (tests_by dig) rules (log_of events) call legal.0.accepted x there) [
-        | inl new ↦ absurd (true≢false (sym new.started ∙ (λ i. is_start (c_is i) (b_is i) call)
-            ∙ not-true _ parts.0))
+        | inl new ↦ grind (arith, common_steps, true≢false, not-true)
         | inr s ↦
             let clock = clock-before (tests_by dig) rules (log_of events) call legal.0.accepted in
             elim (exit-looked events (call ∷ since) s.y b legal.1 (none-before dig (Joins call) events c none)
@@ -151,8 +117,7 @@ module _ (dig : List ℕ → List ℕ) (digest : IsDigest dig) (rules : Rules) (
             (s.block ∙ b_is)
             ((λ i. (s.account i) == ((before.1 i).account)) ∙ other) (λ is. unspent (sym s.parent ∙ is))
             (omega (arith, clock, inside, s.start))
-            (or_from (is_end c b call) (list_any (is_end c b) since)
-            ((λ i. is_end (sym c_is i) (sym b_is i) call) ∙ s.not_ended) unended) parts.1) [
+            (grind (arith, common_steps, or_from)) parts.1) [
               | inr challenged ↦ inr (s.challenged e challenged)
               | inl some ↦ grind (arith, or_cases)
             ]
@@ -206,18 +171,15 @@ module _ (dig : List ℕ → List ℕ) (digest : IsDigest dig) (rules : Rules) (
       elim (stood-before (tests_by dig) rules (log_of events) call legal.0.accepted x there) [
         | inl new ↦ subst (λ (l : List Challenge). Has l ch) new.unchallenged has
         | inr s ↦ elim (s.opened ch has still) [
-          | inl made ↦ true≢false (sym made.0 ∙ (λ i. is_before (c_is i) (at_tip i) (n_is i) call)
-              ∙ not-true _ parts.0)
+          | inl made ↦ grind (arith, common_steps, true≢false, not-true)
           | inr was ↦
               let clock = clock-before (tests_by dig) rules (log_of events) call legal.0.accepted in
               challenge-looked events (call ∷ since) s.y n was.old legal.1
               (none-before dig (Joins call) events c none)
               (forged-parts rules.tag (Joins call) events w c unforged).1 before.0 s.there (s.coin ∙ c_is)
               (s.block ∙ at_tip) was.there (was.block ∙ n_is) was.unanswered (omega (arith, clock, inside, was.at))
-              (or_from (is_end c e call) (list_any (is_end c e) since)
-              ((λ i. is_end (sym c_is i) (sym at_tip i) call) ∙ s.not_ended) unended)
-              (or_from (is_respond c e n call) (list_any (is_respond c e n) since)
-              ((λ i. is_respond (sym c_is i) (sym at_tip i) (sym n_is i) call) ∙ was.not_answered) unanswered)
+              (grind (arith, common_steps, or_from))
+              (grind (arith, common_steps, or_from))
               parts.1
         ]
       ]
@@ -280,20 +242,12 @@ module _ (dig : List ℕ → List ℕ) (digest : IsDigest dig) (rules : Rules) (
       ticked-watched c h.me e (now (log_of events)) time x was
       (λ other inside over. elim (exit-looked events [] x x.block legal none unforged h there c_is refl other
       was.unspent inside refl
-      (and-seen (is_met (now (log_of events)) time (x.start + CHALLENGE_WINDOW))
-      (exit_has_look events w c e x.block)
-      (ap (λ (b : Bool). if b then own_unseen events time x else other_unseen events time x) (sym other) ∙ passed)
-      (and_from _ _ (lt-ltb _ _ inside) (le-leb _ _ over)))) [
+      (grind (arith, common_steps, and-seen, and_from, lt-ltb, le-leb))) [
         | inl wrong ↦ absurd (false≢true wrong)
         | inr challenged ↦ challenged
       ])
       (λ mine at_tip ch has still inside over. challenge-looked events [] x ch.block ch legal none unforged h there
       c_is at_tip has refl still inside refl refl
       (and-seen (meets_challenge (now (log_of events)) time ch) (challenge_has_look events w c e ch.block)
-      (any-none
-      (λ (k : Challenge). meets_challenge (now (log_of events)) time k && not (challenge_has_look events w c e k.block))
-      x.challenges ch
-      (and-off (x.block == e) _
-      (ap (λ (b : Bool). if b then own_unseen events time x else other_unseen events time x) (sym mine) ∙ passed)
-      (eq-eqb x.block e at_tip)) has)
+      (grind (arith, common_steps, any-none, and-off, eq-eqb))
       (and_from _ _ (not_from_false _ still) (and_from _ _ (lt-ltb _ _ inside) (le-leb _ _ over))))))

@@ -1,34 +1,11 @@
 -- A coin that was looked after isn't taken.
-use Rattle.std.proofs.Common.{◌≡◌, ◌⊎◌, ℕ, ◌+◌, ◌==◌, ◌&&◌, not, Bool, true, false, if◌then◌else◌, List, [], ◌∷◌, Option, Some, None, inl, inr, refl, sym, ap, ◌∙◌, subst, arith, rules}
-use Rattle.std.specs.Prelude.{nat_le}
-use Rattle.std.specs.Option.{option_or}
-use Rattle.std.specs.List.{list_any}
-use Rattle.std.proofs.lemmas.Bool.{cases_Bool, eq-eqb, eqb-true, le-leb, and_parts, and_from, or_parts, or_cases, or_from, or_right, not-true, not_from_false, true≢false, false≢true, false_from_ne_true}
-use Rattle.std.proofs.lemmas.Grind.{common_steps}
-use Rattle.plasma_tx.specs.declared.owner.Owner.{Owner}
-use Rattle.plasma_tx.specs.declared.call.RootCall.{RootCall}
-use Rattle.plasma_tx.specs.declared.call.RootCall.TheVariants.{After, Between, Finish}
-use Rattle.plasma_tx.specs.declared.answer.Answer.{Answer}
-use Rattle.plasma_tx.specs.Views.{now, coin_at, Exit, exits, exit_at, is_withdrawn, has_no_open_challenge}
-use Rattle.plasma_tx.specs.declared.rules.TheConstants.{EXIT_PERIOD}
-use Rattle.plasma_tx.specs.Shown.{Tests, Rules, tests_by}
-use Rattle.plasma_tx.specs.Table.{is_accepted, answer_to}
-use Rattle.plasma_tx.specs.RuleLaws.{is_paid}
-use Rattle.plasma_tx.proofs.Accepted.{accepted_calls_show}
+use Rattle.world_laws.proofs.Basics.{◌≡◌, ◌⊎◌, ℕ, ◌==◌, ◌&&◌, not, true, false, if◌then◌else◌, List, [], ◌∷◌, Option, Some, None, inl, inr, refl, sym, ap, ◌∙◌, subst, arith, rules, option_or, list_any, cases_Bool, eq-eqb, eqb-true, le-leb, and_parts, and_from, or_parts, or_cases, or_from, not-true, not_from_false, true≢false, false≢true, false_from_ne_true, common_steps, some_same, none_some, found-has}
+use Rattle.world_laws.proofs.CoinWords.{Owner, RootCall, After, Between, Finish, Answer, now, coin_at, Exit, exits, exit_at, is_withdrawn, has_no_open_challenge, Tests, Rules, tests_by, is_accepted, answer_to, is_paid, accepted_calls_show, Has, all-has, contains-has}
+use Rattle.world_laws.proofs.WorldWords.{IsDigest, Event, Declares, Joins, log_of, wallet_owner, accepted, bound_by, taken_back, signed_away_by, is_sent_from, is_bundle, seen, strings_of, has_clash, is_forged, was_deposited, holds, is_mine, is_own, call_harms, harms, is_finish_paid, pays_own, pays_other, ends_own, takes_from, before_taking, exit_was_paid, starts_by, left_by, LegalCall, IsLegal, is_looked_after, AllWatched, accepted-stay, deposited-stays}
+use Rattle.world_laws.proofs.HeldCoins.{owner-stays, holding}
 use Rattle.plasma_tx.proofs.Ends.{paid_exactly}
-use Rattle.watch_duty.proofs.Members.{Has, all-has, contains-has}
-use Rattle.world_rules.specs.Laws.{IsDigest}
-use Rattle.world_rules.specs.Events.{Event, Declares, Joins, log_of, wallet_owner, accepted, bound_by, taken_back, signed_away_by, is_sent_from, is_bundle}
-use Rattle.world_rules.specs.Exhibits.{seen, strings_of, has_clash, is_forged}
-use Rattle.world_rules.specs.Safety.{was_deposited, holds, is_mine, is_own, finish_harms, call_harms, harms}
-use Rattle.world_rules.specs.Verdicts.{is_others, is_finish_paid, pays_own, pays_other, ends_own, takes_from, before_taking, exit_was_paid}
-use Rattle.world_laws.specs.Legal.{starts_by, left_by, is_tip, LegalCall, IsLegal}
-use Rattle.world_laws.specs.Looked.{is_looked_after}
-use Rattle.world_laws.proofs.Lists.{some_same, none_some, found-has}
-use Rattle.world_laws.proofs.Bound.{owner-stays, holding}
 use Rattle.world_laws.proofs.Guards.{holds-from}
-use Rattle.world_laws.proofs.Offers.{left_start, coin-stays}
-use Rattle.world_laws.specs.Invariant.{IfOf, AllWatched}
+use Rattle.world_laws.proofs.Offers.{left_start}
 use Rattle.world_laws.proofs.Before.{none-before, forged-parts, legal-before}
 use Rattle.world_laws.proofs.Safe.{looked-parts, watched, safe-event}
 use Rattle.world_laws.proofs.OwnExits.{IsOwnAt, IfOwn, IsStartedBy, came-from, undeclared-none, own_kept}
@@ -36,23 +13,12 @@ use Rattle.world_laws.proofs.Exhibited.{or-none}
 
 -- ---- holding goes on
 
-deposited-on : (event : Event) (events : List Event) (me : Owner) (c e : ℕ)
-    → was_deposited me e (coin_at (log_of events) c) ≡ true
-    → was_deposited me e (coin_at (log_of (event ∷ events)) c) ≡ true
-deposited-on event events me c e is = grind (arith, common_steps, false≢true, coin-stays)
-
-accepted-on : (event : Event) (events : List Event) (w c e : ℕ)
-    → list_any (is_bundle c e) (accepted events w) ≡ true
-    → list_any (is_bundle c e) (accepted (event ∷ events) w) ≡ true
-unfolding accepted
-accepted-on event events w c e is = grind (arith, common_steps, or_right)
-
 holds-on : (tests : Tests) (rules : Rules) (event : Event) (events : List Event) (w c e : ℕ)
     → IsLegal tests rules (event ∷ events) → holds events w c e ≡ true
     → is_sent_from (signed_away_by (event ∷ events) w) c e ≡ false
     → is_withdrawn (log_of (event ∷ events)) c ≡ false → holds (event ∷ events) w c e ≡ true
 holds-on tests rules event events w c e legal is not_away stays =
-    grind (arith, common_steps, holding, holds-from, owner-stays, deposited-on, accepted-on)
+    grind (arith, common_steps, holding, holds-from, owner-stays, deposited-stays, accepted-stay)
 
 -- ---- what one call does
 
@@ -80,8 +46,7 @@ module _ (tests : Tests) (rules : Rules) (me : Owner) (c e : ℕ) (log : List Ro
       → is_withdrawn (call ∷ log) c ≡ false
   unfolding is_withdrawn
   stays-in time (Finish account k f) is stays all no_other no_own =
-      or_from ((k == c) && has_no_open_challenge (exit_at log k f)) (is_withdrawn log c)
-      (false_from_ne_true ((k == c) && has_no_open_challenge (exit_at log k f)) withdraws) stays
+      grind (arith, common_steps, or_from, false_from_ne_true, withdraws)
     where
       withdraws : ((k == c) && has_no_open_challenge (exit_at log k f)) ≡ true → ⊥
       withdraws on =
@@ -93,18 +58,10 @@ module _ (tests : Tests) (rules : Rules) (me : Owner) (c e : ℕ) (log : List Ro
           let paid : is_finish_paid tests rules log account k f ≡ true = ap is_paid
           ((paid_exactly tests rules log account k f).1 (
             s,
-            and_from _ _ unopposed
-                (not_from_false _ (ap (is_withdrawn log) k_is ∙ stays)),
+            grind (arith, common_steps, and_from, not_from_false),
           )) in
           let place = found-has log k f s.exit s.stands in
-          let w = all-has (IfOf c me e time) (exits log) s.exit all place.0 (place.1 ∙ k_is) in
-          elim (cases_Bool (is_mine me s.exit)) [
-            | inl mine ↦ true≢false (sym (and_from _ _ (and_from _ _ (and_from _ _ parts.0
-                (eq-eqb f e (sym place.2 ∙ w.own_block mine)))
-                (ap (is_own me) s.stands ∙ mine)) paid) ∙ no_own)
-            | inr theirs ↦ true≢false (sym (and_from _ _ (and_from _ _ parts.0
-                (ap (is_others me) s.stands ∙ not_from_false _ theirs)) paid) ∙ no_other)
-          ]
+          grind (arith, common_steps, all-has, cases_Bool, true≢false, and_from, eq-eqb, not_from_false)
   stays-in time call is stays all no_other no_own = stays
 
   -- what ends the own exit names it, and harms if the coin is held
@@ -112,14 +69,8 @@ module _ (tests : Tests) (rules : Rules) (me : Owner) (c e : ℕ) (log : List Ro
       → ends_own tests rules log me c e (Joins call) ≡ true
       → ((x : Exit) × Has (exits log) x × IsOwnAt me c e x) × (call_harms tests rules log me c e call ≡ true)
   unfolding call_harms
-  ends-harms (After account k f spend) is ends =
-      let parts = and_parts ((k == c) && (f == e)) (is_own me (exit_at log k f)) ends in
-      let names = and_parts (k == c) (f == e) parts.0 in
-      (own-found k f names.0 names.1 parts.1, and_from _ _ ends is)
-  ends-harms (Between account k f spend) is ends =
-      let parts = and_parts ((k == c) && (f == e)) (is_own me (exit_at log k f)) ends in
-      let names = and_parts (k == c) (f == e) parts.0 in
-      (own-found k f names.0 names.1 parts.1, and_from _ _ ends is)
+  ends-harms (After account k f spend) is ends = grind (arith, common_steps, and_parts, own-found, and_from)
+  ends-harms (Between account k f spend) is ends = grind (arith, common_steps, and_parts, own-found, and_from)
   ends-harms (Finish account k f) is ends =
       let answer : Answer = answer_to tests rules log (Finish account k f) in
       let s = accepted_calls_show tests rules log (Finish account k f) is in
@@ -128,14 +79,7 @@ module _ (tests : Tests) (rules : Rules) (me : Owner) (c e : ℕ) (log : List Ro
       let names = and_parts (k == c) (f == e) parts.0 in
       let mine : is_mine me s.exit ≡ true = ap (is_own me) (sym s.stands) ∙ parts.1 in
       let place = found-has log k f s.exit s.stands in
-      let tip : s.exit.block ≡ e = place.2 ∙ eqb-true f e names.1 in
-      let harm : finish_harms me e (now log) answer (Some s.exit) ≡ true =
-      subst (λ (b : Bool). (if b then (s.exit.block == e) && nat_le (s.exit.start + EXIT_PERIOD) (now log)
-      && not (is_paid answer) else is_paid answer) ≡ true) (sym mine)
-      (and_from _ _ (and_from _ _ (eq-eqb s.exit.block e tip) (le-leb _ _ s.in_time)) whole.1) in (
-        own-found k f names.0 names.1 parts.1,
-        and_from _ _ names.0 (ap (finish_harms me e (now log) answer) s.stands ∙ harm),
-      )
+      grind (arith, common_steps, eqb-true, and_from, eq-eqb, le-leb, own-found)
   ends-harms call is ends = absurd (false≢true ends)
 
   -- another's exit that is paid harms
@@ -170,10 +114,7 @@ module _ (dig : List ℕ → List ℕ) (digest : IsDigest dig) (rules : Rules) (
   start-source events call legal me_is allowed s =
       let k = left_start (tests_by dig) rules events w call legal
       (contains-has (left_by events w) call (allowed.offered w me me_is s.start)) in
-      let mine : k.me ≡ me = some_same k.me me (sym k.me_is ∙ me_is) in
-      let tip : is_tip events w me c e ≡ true =
-      (λ i. is_tip events w (sym mine i) (sym s.coin_is i) (sym s.block_is i)) ∙ k.tip in
-      or_cases (was_deposited me e (coin_at (log_of events) c)) (list_any (is_bundle c e) (accepted events w)) tip
+      grind (arith, common_steps, some_same, or_cases)
 
   -- after an accepted call that pays neither another's exit nor the own one
   held-call : (call : RootCall) (events : List Event) → IsLegal (tests_by dig) rules (Joins call ∷ events)
@@ -277,8 +218,7 @@ module _ (dig : List ℕ → List ℕ) (digest : IsDigest dig) (rules : Rules) (
   harm-none event events legal none unforged looked k held harm =
       let h = holding events w c e held in
       let owner : wallet_owner events w ≡ Some me = h.me_is ∙ ap (λ (o : Owner). Some o) (k.same h.me h.me_is) in
-      true≢false (sym (and_from _ _ held
-      (ap (λ o. harms (tests_by dig) rules (log_of events) o c e event) owner ∙ harm))
+      true≢false (sym (grind (arith, common_steps, and_from))
       ∙ safe-event dig digest rules w c e event events legal looked none unforged)
 
   pays-harm : (event : Event) (events : List Event)
@@ -303,16 +243,7 @@ module _ (dig : List ℕ → List ℕ) (digest : IsDigest dig) (rules : Rules) (
       → exit_was_paid (tests_by dig) rules events me c e ≡ false
       → takes_from (tests_by dig) rules events me w c e event ≡ true → ⊥
   untaken event events legal none unforged looked k before unpaid takes =
-      elim (or_cases (pays_other (tests_by dig) rules (log_of events) me c event && holds events w c e)
-      (ends_own (tests_by dig) rules (log_of events) me c e event) takes) [
-        | inl paid ↦
-            let parts = and_parts (pays_other (tests_by dig) rules (log_of events) me c event) (holds events w c e)
-            paid in
-            harm-none event events legal none unforged looked k parts.1 (pays-harm event events parts.0)
-        | inr ended ↦
-            let r = ends-harm event events legal ended in
-            by_owner (wallet_owner events w) refl r.0.0 r.0.1 r.0.2 r.1
-      ]
+      grind (arith, common_steps, or_cases, and_parts, harm-none, pays-harm, ends-harm, by_owner)
     where
       by_owner : (o : Option Owner) → wallet_owner events w ≡ o → (x : Exit) → Has (exits (log_of events)) x
           → IsOwnAt me c e x → harms (tests_by dig) rules (log_of events) (Some me) c e event ≡ true → ⊥

@@ -1,33 +1,10 @@
 -- In every run, nodes' notes are beside the events: what wallets accept and watchers keep is shown by what they
 -- accepted and guard, and what a wallet left with is noted.
-use Rattle.std.proofs.Common.{◌≡◌, ℕ, Bool, true, false, List, [], ◌∷◌, length, slice_get, Some, None, refl, sym, ap, ◌∙◌, subst, arith, rules}
-use Rattle.std.proofs.lemmas.Bool.{false≢true}
-use Rattle.std.proofs.lemmas.Grind.{common_steps}
-use Rattle.plasma_tx.specs.declared.call.RootCall.{RootCall}
-use Rattle.plasma_tx.specs.Shown.{Rules}
-use Rattle.coin_history.specs.declared.bundle.Bundle.{Bundle}
-use Rattle.schedule_text.specs.declared.line.Line.{Line}
-use Rattle.node_rules.specs.WalletRecords.{notes_of as wallet_notes, accepted_of}
-use Rattle.node_rules.specs.Watcher.{notes_of as watcher_notes, guards_of, guards_in}
-use Rattle.watch_duty.proofs.Members.{Has}
-use Rattle.node_replies.specs.declared.order.NodeOrder.{NodeOrder}
-use Rattle.node_replies.specs.Orders.{with_record}
-use Rattle.world_rules.specs.Events.{Event, Other, Idle, Leaves, node_in}
-use Rattle.world_rules.specs.World.{Node, World, is_wallet_role, is_watcher_role, wallet_of}
-use Rattle.world_rules.specs.Deeds.{Deed}
-use Rattle.world_rules.specs.Steps.{with_records, after_crash, without_offers, Run, events_of}
-use Rattle.world_rules.proofs.KeptNode.{IsFitOrder}
-use Rattle.world_rules.proofs.KeptWorld.{KeptWorld, world-feeds}
+use Rattle.world_laws.proofs.Basics.{◌≡◌, ℕ, Bool, true, false, List, [], ◌∷◌, length, slice_get, Some, None, refl, sym, ap, ◌∙◌, subst, arith, rules, false≢true, common_steps}
+use Rattle.world_laws.proofs.CoinWords.{RootCall, Rules, Bundle, Has}
+use Rattle.world_laws.proofs.NodeWords.{wallet_notes, accepted_of, watcher_notes, guards_of, guards_in, NodeOrder, with_record}
+use Rattle.world_laws.proofs.WorldWords.{Line, Event, Other, Idle, Leaves, node_in, Node, World, is_wallet_role, is_watcher_role, wallet_of, Deed, with_records, after_crash, without_offers, Run, events_of, IsFitOrder, KeptWorld, world-feeds, begun, Said, said, told, said-other, Place, NewWallet, NewWatcher, NewRogue, Act, Adds, Orders, Crashes, End, Whole, Crashed, Kept, Lost, end_of, node_after, event_after, deed_at, done, MayOrder, IsActIn, IsFitAct, change_of, EachNode, IsKeptOwn, each_node_keeps, IfThere, node-there, others-there, OperatorIsFirst, order-told, commands-others, said-others, rules-stay, IsRun, left_by, is_left}
 use Rattle.world_rules.proofs.NodeEvents.{other-of}
-use Rattle.world_rules.proofs.Lives.{begun}
-use Rattle.world_rules.proofs.Said.{Said, said, told, said-other}
-use Rattle.world_rules.specs.Acts.{Place, NewWallet, NewWatcher, NewRogue, Act, Adds, Orders, Crashes, End, Whole, Crashed, Kept, Lost, end_of, node_after, event_after, deed_at, done}
-use Rattle.world_rules.specs.Evidence.{MayOrder, IsActIn}
-use Rattle.world_rules.proofs.Fitting.{IsFitAct}
-use Rattle.world_rules.proofs.Nodes.{change_of, EachNode, IsKeptOwn, each_node_keeps, IfThere, node-there, others-there}
-use Rattle.world_rules.proofs.Told.{OperatorIsFirst, order-told, commands-others, said-others, rules-stay}
-use Rattle.world_laws.specs.Headline.{IsRun}
-use Rattle.world_laws.specs.Legal.{left_by, is_left}
 use Rattle.world_laws.proofs.Acts.{over_events}
 use Rattle.world_laws.proofs.Keeps.{Keeps, own-tag, watcher-tag, next-unknown, runs-keep}
 use Rattle.world_laws.proofs.GuardsShown.{AreShown, order-shown}
@@ -84,12 +61,8 @@ module _ (dig : List ℕ → List ℕ) (events : List Event) (world : World) (ke
   new-noted : (event : Event) (node : Node) (identity : List ℕ) → node_in event ≡ None → node.notes ≡ identity ∷ []
       → Behind event (length world.nodes) node
   new-noted event node identity none notes = record {
-    guards = λ watcher bundle has.
-        absurd (none-kept dig identity bundle
-        (subst (λ (records : List (List ℕ)). Has (guards_in dig records) bundle) notes has));
-    accepts = λ wallet bundle has.
-        absurd (none-accepted dig identity bundle
-        (subst (λ (records : List (List ℕ)). Has (accepted_in dig records) bundle) notes has));
+    guards = grind (arith, common_steps, none-kept);
+    accepts = grind (arith, common_steps, none-accepted, accepted_in);
     left = λ wallet. record {
       openings = bare-openings dig (wallet_of node) identity notes;
       left = λ c e is. absurd (false≢true

@@ -1,14 +1,7 @@
 -- What stays of a node while others act.
-use Rattle.std.proofs.Common.{◌≡◌, ℕ, ◌||◌, true, false, List, ◌∷◌, arith, rules}
-use Rattle.std.specs.List.{list_any}
-use Rattle.std.proofs.lemmas.Bool.{eqb-true, true≢false}
-use Rattle.std.proofs.lemmas.Grind.{common_steps}
-use Rattle.plasma_tx.specs.declared.owner.Owner.{Owner}
-use Rattle.plasma_tx.specs.Views.{coin_at}
-use Rattle.plasma_tx.specs.Shown.{Tests, Rules}
-use Rattle.world_rules.specs.Events.{Event, log_of, wallet_owner, accepted, bound_by, taken_back, is_bundle, guarded_by, is_command_of}
-use Rattle.world_rules.specs.Safety.{was_deposited, is_joined}
-use Rattle.world_laws.specs.Legal.{is_tip, IsLegal}
+use Rattle.world_laws.proofs.Basics.{◌≡◌, ℕ, ◌||◌, true, false, List, ◌∷◌, arith, rules, list_any, eqb-true, true≢false, common_steps}
+use Rattle.world_laws.proofs.CoinWords.{Owner, coin_at, Tests, Rules}
+use Rattle.world_laws.proofs.WorldWords.{Event, log_of, wallet_owner, accepted, bound_by, taken_back, is_bundle, guarded_by, is_command_of, was_deposited, is_joined, is_tip, IsLegal}
 
 -- what the events say of node n is the same with the event
 pub record SameNode (event : Event) (events : List Event) (n : ℕ) : Type 0 where

@@ -1,36 +1,10 @@
 -- The note of a coin that a wallet accepts is never too long: a coin has at most as many links as the chain has blocks,
 -- and a link's opening is short, since its leaf is a transfer with a valid signature.
-use Rattle.std.proofs.Common.{◌≡◌, ℕ, zero, suc, ◌+◌, ◌-◌, ◌*◌, ◌≤◌, ◌==◌, Bool, true, false, if◌then◌else◌, List, [], ◌∷◌, ◌++◌, length, map, filter, drop, All, Option, Some, None, Ok, Err, refl, ap, subst, length-append, length-drop, nat_lt, nat_le, arith}
-use Rattle.std.specs.Prelude.{Result}
-use Rattle.std.specs.List.{filter_map, cons_option, flat_map, range_with_len}
-use Rattle.std.specs.Option.{option_map}
-use Rattle.std.proofs.lemmas.Bool.{and_parts, eqb-true, le-ltb, false≢true}
-use Rattle.std.proofs.lemmas.List.{length-take-le, length-map}
-use Rattle.std.proofs.lemmas.List.Elements.{All-head, All-tail}
-use Rattle.std.proofs.lemmas.Grind.{common_steps}
-use Rattle.sparse_merkle.specs.MaskedPath.{MaskedPath, set_bits, has_proof_length, mask_in, proof_in}
+use Rattle.world_laws.proofs.Basics.{◌≡◌, ℕ, zero, suc, ◌+◌, ◌-◌, ◌*◌, ◌≤◌, ◌==◌, Bool, true, false, if◌then◌else◌, List, [], ◌∷◌, length, map, filter, drop, All, Option, Some, None, Ok, Err, refl, subst, length-drop, nat_lt, nat_le, arith, Result, filter_map, cons_option, flat_map, range_with_len, option_map, and_parts, eqb-true, le-ltb, false≢true, length-take-le, length-map, All-head, All-tail, common_steps, some_same}
+use Rattle.world_laws.proofs.CoinWords.{MaskedPath, set_bits, has_proof_length, mask_in, proof_in, Owner, Opening, RawOpening, Link, Links, SignedTx, RootCall, leaf_length, leaf_in, opening_in, signed_in, transfer_in, is_signed_by, blocks, opening_in-ok, tests_by, Bundle, item_text, bundle_text, is_committed, committed_blocks, opens_block, transfer_of, link_of, links_in, AreLinked, IsHistory, committed-le}
+use Rattle.world_laws.proofs.NodeWords.{chain_of, kept_of, most_note, Accepts, note_text}
 use Rattle.sparse_merkle.proofs.ProofLaws.{set_bits-bound}
-use Rattle.plasma_tx.specs.declared.owner.Owner.{Owner}
-use Rattle.plasma_tx.specs.declared.opening.Opening.{Opening}
-use Rattle.plasma_tx.specs.declared.opening.RawOpening.{RawOpening}
-use Rattle.plasma_tx.specs.declared.links.Link.{Link}
-use Rattle.plasma_tx.specs.declared.links.Links.{Links}
-use Rattle.plasma_tx.specs.declared.signed_tx.SignedTx.{SignedTx}
-use Rattle.plasma_tx.specs.declared.call.RootCall.{RootCall}
-use Rattle.plasma_tx.specs.Openings.{leaf_length, leaf_in, opening_in}
-use Rattle.plasma_tx.specs.Spelling.{number_text, signed_in}
-use Rattle.plasma_tx.specs.Transfer.{transfer_in, is_signed_by}
-use Rattle.plasma_tx.specs.Views.{blocks}
-use Rattle.plasma_tx.proofs.OpeningTexts.{opening_in-ok}
-use Rattle.plasma_tx.specs.Shown.{tests_by}
-use Rattle.coin_history.specs.declared.bundle.Bundle.{Bundle}
-use Rattle.coin_history.specs.Bundles.{length_text, item_text, bundle_text}
-use Rattle.coin_history.specs.History.{is_committed, committed_blocks, opens_block, transfer_of, link_of, links_in, AreLinked, IsHistory}
-use Rattle.coin_history.proofs.HistoryGrow.{committed-le}
-use Rattle.node_rules.specs.Kept.{chain_of, kept_of, most_note}
-use Rattle.node_rules.specs.WalletRecords.{Accepts, note_text}
 use Rattle.operator_rules.proofs.Openings.{leaf-short}
-use Rattle.world_laws.proofs.Lists.{some_same}
 
 -- ---- openings
 
@@ -117,10 +91,7 @@ module _ (dig : List ℕ → List ℕ) (tag : List ℕ) (log : List RootCall) (c
           → length (texts (shown openings)) ≤ 4704 * length openings)
           → length (texts (cons_option (link_by o found) (shown openings))) ≤ 4704 * length (o ∷ openings)
       by None none linked again = let more = again block owner linked in omega (arith, more)
-      by (Some tx) some linked again =
-          let more = again o.block tx.body.to linked.2 in
-          let item = one-short o tx owner here some linked.1 in
-          omega (arith, more, item, length-append (item_text o) (texts (shown openings)))
+      by (Some tx) some linked again = grind (arith, common_steps, one-short, here)
 
 -- ---- blocks
 
@@ -145,28 +116,4 @@ note-short dig tag log bundle links history small =
     let linked = subst (λ (l : Links). AreLinked (tests_by dig) links.deposit links.owner l.spends) history.shown
     history.linked in
     let items = links-short dig tag log bundle.coin bundle.openings links.deposit links.owner history.opened linked in
-    let spends : texts dig tag log bundle.coin links.spends ≡ texts dig tag log bundle.coin
-    (shown dig tag log bundle.coin bundle.openings) =
-    ap (λ (l : Links). texts dig tag log bundle.coin l.spends) history.shown in
-    let same = ap (λ (l : List ℕ). length l) spends in
-    let kept = kept_of links in
-    let items_text = flat_map item_text kept.openings in
-    let count : length (length_text (length kept.openings)) ≡ 4 = refl in
-    let coin : length (number_text kept.coin) ≡ 8 = refl in
-    let tip : length (number_text kept.tip) ≡ 8 = refl in
-    le-ltb most_note (length (note_text (Accepts (kept_of links)))) (omega (
-      arith,
-      openings,
-      small,
-      items,
-      same,
-      count,
-      coin,
-      tip,
-      length-append (number_text kept.coin) (number_text kept.tip ++ length_text (length kept.openings) ++ items_text),
-      length-append (number_text kept.tip) (length_text (length kept.openings) ++ items_text),
-      length-append (length_text (length kept.openings)) items_text,
-      length-append (number_text kept.coin ++ number_text kept.tip ++ length_text (length kept.openings)) items_text,
-      length-append (number_text kept.coin ++ number_text kept.tip) (length_text (length kept.openings)),
-      length-append (number_text kept.coin) (number_text kept.tip),
-    ))
+    grind (arith, common_steps, le-ltb)

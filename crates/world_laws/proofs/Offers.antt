@@ -1,36 +1,9 @@
 -- A start that a wallet's leave offers is the start of an exit at a tip that it has.
-use Rattle.std.proofs.Common.{◌≡◌, ℕ, ◌-◌, ◌==◌, true, false, if◌then◌else◌, List, [], ◌∷◌, length, Option, Some, None, inl, inr, refl, sym, ap, ◌∙◌, subst, arith, rules}
-use Rattle.std.specs.Option.{option_map_or}
-use Rattle.std.specs.List.{AllByRecursion}
-use Rattle.std.proofs.lemmas.Bool.{eqb-true, or_cases, or_left, or_right, false≢true}
-use Rattle.std.proofs.lemmas.Grind.{common_steps}
-use Rattle.plasma_tx.specs.declared.owner.Owner.{Owner}
-use Rattle.plasma_tx.specs.declared.links.Link.{Link}
-use Rattle.plasma_tx.specs.declared.links.Links.{Links}
-use Rattle.plasma_tx.specs.declared.call.RootCall.{RootCall}
-use Rattle.plasma_tx.specs.declared.views.CoinView.{CoinView}
-use Rattle.plasma_tx.specs.declared.views.ExitView.{ExitView}
-use Rattle.plasma_tx.specs.Links.{last_spend, tip_of}
-use Rattle.plasma_tx.specs.Views.{coin_at, exits_of}
-use Rattle.plasma_tx.specs.Shown.{Tests, Rules}
-use Rattle.coin_history.specs.declared.bundle.Bundle.{Bundle}
-use Rattle.coin_history.specs.History.{links_of}
-use Rattle.coin_history.proofs.HistoryGrow.{coin_at-grown}
-use Rattle.coin_history.proofs.HistoryLinks.{none-linked}
-use Rattle.node_rules.specs.Kept.{kept_links}
-use Rattle.node_rules.specs.Wallet.{start_by, start_of}
-use Rattle.node_rules.specs.Watcher.{due_for_kept}
-use Rattle.watch_duty.specs.Duty.{due_for, due_of}
-use Rattle.watch_duty.proofs.Members.{Has, all-has, contains-has, has-flat_map}
-use Rattle.watch_duty.proofs.Dues.{IsDue as IsDueFor, due_for-due}
-use Rattle.world_rules.specs.Events.{Event, Joins, Leaves, log_of, coin_of_call, wallet_owner, accepted}
-use Rattle.node_replies.specs.Orders.{exit_block}
-use Rattle.world_laws.specs.Headline.{is_start}
-use Rattle.world_laws.specs.Legal.{starts_by, left_by, is_tip, ShowsTip, Taken, Bare, LegalLeave, IsLegal}
-use Rattle.world_laws.proofs.Lists.{some_same, got-has}
-use Rattle.world_laws.proofs.Histories.{links-at}
-use Rattle.world_laws.proofs.Bound.{owner-stays, Holding, holding, is_noted}
-use Rattle.world_laws.proofs.Held.{held_at, deposited-coin}
+use Rattle.world_laws.proofs.Basics.{◌≡◌, ℕ, ◌-◌, ◌==◌, true, false, if◌then◌else◌, List, [], ◌∷◌, length, Option, Some, None, inl, inr, refl, sym, ap, ◌∙◌, subst, arith, rules, option_map_or, AllByRecursion, eqb-true, or_cases, or_left, or_right, false≢true, common_steps, some_same, got-has}
+use Rattle.world_laws.proofs.CoinWords.{Owner, Link, Links, RootCall, CoinView, ExitView, last_spend, tip_of, coin_at, exits_of, Tests, Rules, Bundle, coin_at-grown, none-linked, due_of, due_for, Has, all-has, contains-has, has-flat_map, IsDueFor, due_for-due}
+use Rattle.world_laws.proofs.NodeWords.{kept_links, start_by, start_of, due_for_kept, exit_block}
+use Rattle.world_laws.proofs.WorldWords.{Event, Leaves, log_of, coin_of_call, wallet_owner, accepted, is_start, starts_by, left_by, is_tip, ShowsTip, Taken, Bare, LegalLeave, IsLegal, coin-stays}
+use Rattle.world_laws.proofs.HeldCoins.{links-at, owner-stays, Holding, holding, is_noted, held_at, deposited-coin}
 use Rattle.world_laws.proofs.Guards.{kept-some}
 
 -- ---- what is due starts no exit
@@ -83,14 +56,7 @@ module _ (tests : Tests) (rules : Rules) (events : List Event) (w : ℕ) (legal 
       × AllByRecursion (λ link. link.opening.block ≡ link.block) links.spends
   shown-links me b links (Taken has) kept =
       let n = is_noted tests rules events w b legal (contains-has (accepted events w) b has) in
-      let own : Links = links_of rules n.history.made b in
-      let same : own ≡ links =
-      some_same own links (sym (kept-some rules (log_of events) b n.history.made n.history.coin) ∙ kept) in (
-        ap (λ (l : Links). l.coin) (sym same),
-        ap tip_of (sym same ∙ sym n.history.shown) ∙ n.history.tip,
-        subst (λ (l : Links). AllByRecursion (λ (link : Link). link.opening.block ≡ link.block) l.spends) same
-            (links-at rules b.coin b.openings),
-      )
+      grind (arith, common_steps, some_same, kept-some, links-at)
   shown-links me b links (Bare deposited none) kept =
       grind (arith, common_steps, deposited-coin, some_same, kept-some, none-linked, links-at)
 
@@ -104,7 +70,7 @@ pub record IsLeftStart (events : List Event) (w : ℕ) (call : RootCall) : Type 
   pub made_is : coin_at (log_of events) (coin_of_call call) ≡ Some made
   pub tip : is_tip events w me (coin_of_call call) (exit_block call) ≡ true
 
-tip-held : (events : List Event) (w c e : ℕ) (h : Holding events w c e) → is_tip events w h.me c e ≡ true
+pub tip-held : (events : List Event) (w c e : ℕ) (h : Holding events w c e) → is_tip events w h.me c e ≡ true
 tip-held events w c e h = grind (arith, common_steps, or_left, or_right)
 
 -- a tip stays one, whatever comes
@@ -113,12 +79,6 @@ tip-grows : (event : Event) (events : List Event) (w : ℕ) (me : Owner) (c n : 
 unfolding log_of accepted
 tip-grows event events w me c n made found is = grind (arith, common_steps, coin_at-grown, or_cases, or_left, or_right)
 
-pub coin-stays : (event : Event) (events : List Event) (c : ℕ) (made : CoinView)
-    → coin_at (log_of events) c ≡ Some made → coin_at (log_of (event ∷ events)) c ≡ Some made
-unfolding log_of
-coin-stays (Joins call) events c made is = coin_at-grown (log_of events) call c made is
-coin-stays event events c made is = is
-
 module _ (tests : Tests) (rules : Rules) where
   -- a leave names the coin and the tip at which the wallet holds it
   pub left-names : (events : List Event) (w : ℕ) (call : RootCall) → IsLegal tests rules events
@@ -126,10 +86,7 @@ module _ (tests : Tests) (rules : Rules) where
   left-names events w call legal l =
       let shown = shown-links tests rules events w legal l.me l.bundle l.links l.shows l.links_are in
       let at = start-at l.me.account l.bundle.tip l.links shown.1 shown.2 in
-      record {
-        coin_is = ap coin_of_call l.call_is ∙ at.coin_is ∙ shown.0;
-        block_is = ap exit_block l.call_is ∙ at.block_is;
-      }
+      grind (arith, common_steps)
 
   -- what a leave offers
   left-start : (events : List Event) (w : ℕ) (call : RootCall) → IsLegal tests rules events
@@ -139,16 +96,7 @@ module _ (tests : Tests) (rules : Rules) where
       let mine : h.me ≡ l.me = some_same h.me l.me (sym h.me_is ∙ l.me_is) in
       let held = held_at tests rules events w l.bundle.coin l.bundle.tip legal h in
       let at = left-names events w call legal l in
-      let coin : coin_of_call call ≡ l.bundle.coin = at.coin_is in
-      let block : exit_block call ≡ l.bundle.tip = at.block_is in
-      record {
-        me = l.me;
-        me_is = l.me_is;
-        made = held.made;
-        made_is = ap (coin_at (log_of events)) coin ∙ held.made_is;
-        tip = (λ i. is_tip events w (sym mine i) (coin i) (block i))
-            ∙ tip-held events w l.bundle.coin l.bundle.tip h;
-      }
+      grind (arith, common_steps, tip-held)
 
   left-on : (event : Event) (events : List Event) (w : ℕ) (call : RootCall) → IsLegal tests rules (event ∷ events)
       → IsLeftStart events w call → IsLeftStart (event ∷ events) w call
@@ -170,5 +118,4 @@ module _ (tests : Tests) (rules : Rules) where
         ])
         | false ↦ λ other there. left_start events w call legal.1 there
       ]) refl h)
-  left_start (event ∷ events) w call legal h =
-      left-on event events w call legal (left_start events w call legal.1 h)
+  left_start (event ∷ events) w call legal h = left-on event events w call legal (left_start events w call legal.1 h)

@@ -1,22 +1,8 @@
 -- What is looked at often is looked after: an exit or a challenge that is newer than a recent look has more time left
 -- than the look is old.
-use Rattle.std.proofs.Common.{◌≡◌, ℕ, ◌+◌, ◌<◌, ◌≤◌, ◌&&◌, ◌||◌, not, Bool, true, false, List, [], ◌∷◌, inl, inr, refl, sym, ap, ◌∙◌, subst, arith}
-use Rattle.std.specs.Prelude.{nat_lt}
-use Rattle.std.specs.List.{list_any}
-use Rattle.std.proofs.lemmas.Bool.{eq-eqb, ltb-true, leb-true, and_parts, and_from, or_cases, or_left, or_right, not-true, not_from_false, true≢false, false≢true, false_from_ne_true}
-use Rattle.std.proofs.lemmas.Grind.{common_steps}
-use Rattle.plasma_tx.specs.declared.call.RootCall.{RootCall}
-use Rattle.plasma_tx.specs.declared.call.RootCall.TheVariants.{Tick}
-use Rattle.plasma_tx.specs.Views.{now, Challenge, Exit, exits}
-use Rattle.plasma_tx.specs.Laws.{is_start, is_respond}
-use Rattle.plasma_tx.specs.declared.rules.TheConstants.{CHALLENGE_WINDOW, RESPONSE_WINDOW}
-use Rattle.plasma_tx.specs.Shown.{Tests, Rules}
-use Rattle.watch_duty.proofs.Members.{Has, any-has}
-use Rattle.world_rules.specs.Events.{Event, Joins, Watches, log_of}
-use Rattle.world_rules.specs.Safety.{holds}
-use Rattle.world_laws.specs.Legal.{IsLegal}
-use Rattle.world_laws.specs.Looked.{is_before, is_on_exit, is_on_coin, fulfils, are_fulfilled, is_guardian, has_look, goes_unseen, is_looked_after, has_recent_look, is_exited, is_looked_often}
-use Rattle.world_laws.proofs.Lists.{and-seen}
+use Rattle.world_laws.proofs.Basics.{◌≡◌, ℕ, ◌+◌, ◌<◌, ◌≤◌, ◌&&◌, ◌||◌, not, Bool, true, false, List, [], ◌∷◌, inl, inr, refl, sym, ap, ◌∙◌, subst, arith, nat_lt, list_any, eq-eqb, ltb-true, leb-true, and_parts, and_from, or_cases, or_left, or_right, not-true, not_from_false, true≢false, false≢true, false_from_ne_true, common_steps, and-seen}
+use Rattle.world_laws.proofs.CoinWords.{RootCall, Tick, now, Challenge, Exit, exits, is_start, is_respond, CHALLENGE_WINDOW, RESPONSE_WINDOW, Tests, Rules, Has, any-has}
+use Rattle.world_laws.proofs.WorldWords.{Event, Joins, Watches, log_of, holds, IsLegal, is_before, is_on_exit, is_on_coin, fulfils, are_fulfilled, is_guardian, has_look, goes_unseen, is_looked_after, has_recent_look, is_exited, is_looked_often}
 use Rattle.world_laws.proofs.Earlier.{stood-before, clock-before}
 use Rattle.world_laws.proofs.Unseen.{EndsUnseen, IsUnseen, is_unseen}
 use Rattle.world_laws.proofs.Attended.{AsksOf, exit-asks, respond-asks}
@@ -50,8 +36,7 @@ module _ (tests : Tests) (rules : Rules) (w c e time : ℕ) where
   recent-clock (Watches n offers ∷ events) since legal recent =
       elim (or_cases (nat_lt time (now (log_of events) + RESPONSE_WINDOW) && is_guardian events w c e n
       && are_fulfilled (is_on_coin c) since offers) (has_recent_look time since events w c e) recent) [
-        | inl here ↦
-            grind (arith, and_parts, ltb-true)
+        | inl here ↦ grind (arith, and_parts, ltb-true)
         | inr earlier ↦ recent-clock events since legal.1 earlier
       ]
   recent-clock (event ∷ events) since legal recent = recent-clock events since legal.1 recent
@@ -74,10 +59,7 @@ module _ (tests : Tests) (rules : Rules) (w c e time : ℕ) where
   exit-recent [] since x b legal there c_is b_is over recent = absurd (false≢true recent)
   exit-recent (Joins call ∷ events) since x b legal there c_is b_is over recent =
       elim (stood-before tests rules (log_of events) call legal.0.accepted x there) [
-        | inl new ↦
-            let late = recent-clock events (call ∷ since) legal.1 recent in
-            let less : RESPONSE_WINDOW ≤ CHALLENGE_WINDOW = omega arith in
-            absurd (omega (arith, late, over, new.start, less))
+        | inl new ↦ grind (arith, common_steps, recent-clock)
         | inr s ↦ and_from (not (is_start c b call))
             (has_look (is_start c b) (is_on_exit c b) (call ∷ since) events w c e)
             (not_from_false _ ((λ i. is_start (sym c_is i) (sym b_is i) call) ∙ s.not_started))
@@ -87,9 +69,7 @@ module _ (tests : Tests) (rules : Rules) (w c e time : ℕ) where
   exit-recent (Watches n offers ∷ events) since x b legal there c_is b_is over recent =
       elim (or_cases (nat_lt time (now (log_of events) + RESPONSE_WINDOW) && is_guardian events w c e n
       && are_fulfilled (is_on_coin c) since offers) (has_recent_look time since events w c e) recent) [
-        | inl here ↦ or_left (is_guardian events w c e n && are_fulfilled (is_on_exit c b) since offers)
-            (has_look (is_start c b) (is_on_exit c b) since events w c e)
-            (watch-recent (is_on_exit c b) (exit-asks c b) n offers since events here)
+        | inl here ↦ grind (arith, common_steps, or_left, watch-recent, exit-asks)
         | inr earlier ↦ or_right (is_guardian events w c e n && are_fulfilled (is_on_exit c b) since offers)
             (has_look (is_start c b) (is_on_exit c b) since events w c e)
             (exit-recent events since x b legal.1 there c_is b_is over earlier)
@@ -122,9 +102,7 @@ module _ (tests : Tests) (rules : Rules) (w c e time : ℕ) where
   challenge-recent (Watches m offers ∷ events) since x n ch legal there c_is e_is has n_is still over recent =
       elim (or_cases (nat_lt time (now (log_of events) + RESPONSE_WINDOW) && is_guardian events w c e m
       && are_fulfilled (is_on_coin c) since offers) (has_recent_look time since events w c e) recent) [
-        | inl here ↦ or_left (is_guardian events w c e m && are_fulfilled (is_respond c e n) since offers)
-            (has_look (is_before c e n) (is_respond c e n) since events w c e)
-            (watch-recent (is_respond c e n) (respond-asks c e n) m offers since events here)
+        | inl here ↦ grind (arith, common_steps, or_left, watch-recent, respond-asks)
         | inr earlier ↦ or_right (is_guardian events w c e m && are_fulfilled (is_respond c e n) since offers)
             (has_look (is_before c e n) (is_respond c e n) since events w c e)
             (challenge-recent events since x n ch legal.1 there c_is e_is has n_is still over earlier)

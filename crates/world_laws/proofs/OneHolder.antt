@@ -1,28 +1,8 @@
 -- Two wallets don't hold one coin.
-use Rattle.std.proofs.Common.{◌≡◌, ◌≢◌, ℕ, ◌+◌, ◌<◌, ◌≤◌, ◌==◌, Bool, true, false, if◌then◌else◌, List, [], ◌∷◌, inl, inr, sym, ap, ◌∙◌, subst, arith, rules}
-use Rattle.std.specs.Prelude.{is_some}
-use Rattle.std.proofs.lemmas.Bool.{cases_order, ne_eqb, eq-eqb, false≢true}
-use Rattle.plasma_tx.specs.declared.owner.Owner.{Owner}
-use Rattle.plasma_tx.specs.declared.opening.RawOpening.{RawOpening}
-use Rattle.plasma_tx.specs.declared.call.RootCall.TheVariants.{Deposit}
-use Rattle.plasma_tx.specs.Views.{coins, coin_at}
-use Rattle.plasma_tx.specs.Shown.{Tests, Rules, tests_by}
-use Rattle.plasma_tx.proofs.Bounds.{coin_at-le}
-use Rattle.coin_history.specs.declared.bundle.Bundle.{Bundle}
-use Rattle.watch_duty.proofs.Members.{Has}
-use Rattle.world_rules.specs.Events.{Event, Joins, Accepts, log_of, wallet_owner, accepted, bound_by, signed_away_by}
-use Rattle.world_rules.specs.Exhibits.{openings_of, seen, collides, is_forged}
-use Rattle.world_laws.specs.LegalLaws.{was_declared_before}
-use Rattle.world_laws.specs.Legal.{IsLegal}
-use Rattle.world_laws.specs.LegalLaws.{OneWalletHoldsLegally}
-use Rattle.world_laws.proofs.Lists.{some_same}
-use Rattle.world_laws.proofs.Clash.{HasOneLeaf, one_leaf}
-use Rattle.world_laws.proofs.Walk.{walk-opened}
-use Rattle.world_laws.proofs.Histories.{place_of}
-use Rattle.world_laws.proofs.Shown.{IsShownAt}
-use Rattle.world_laws.proofs.Absences.{parted}
-use Rattle.world_laws.proofs.Bound.{SignsBy, owners_apart, Holding, holding, is_noted, IsSince, owner-some, owner-stays, bound_since, unspent}
-use Rattle.world_laws.proofs.Held.{held_at, end_shown, shown_same, successor_in}
+use Rattle.world_laws.proofs.Basics.{◌≡◌, ◌≢◌, ℕ, ◌+◌, ◌<◌, ◌≤◌, ◌==◌, true, false, if◌then◌else◌, List, [], ◌∷◌, inl, inr, sym, ap, ◌∙◌, subst, arith, rules, is_some, cases_order, ne_eqb, eq-eqb, false≢true, common_steps, some_same}
+use Rattle.world_laws.proofs.CoinWords.{RawOpening, Deposit, coins, Tests, Rules, tests_by, coin_at-le, Bundle, Has, Owner}
+use Rattle.world_laws.proofs.WorldWords.{Event, Joins, Accepts, log_of, wallet_owner, accepted, bound_by, signed_away_by, openings_of, seen, collides, is_forged, was_declared_before, IsLegal, OneWalletHoldsLegally, was_declared_before}
+use Rattle.world_laws.proofs.HeldCoins.{HasOneLeaf, one_leaf, walk-opened, place_of, IsShownAt, parted, SignsBy, owners_apart, Holding, holding, is_noted, IsSince, owner-some, owner-stays, bound_since, unspent, held_at, end_shown, shown_same, successor_in}
 use Rattle.world_laws.proofs.Before.{legal-before}
 
 module _ (tests : Tests) (rules : Rules) where
@@ -57,20 +37,17 @@ module _ (tests : Tests) (rules : Rules) where
   accepted_since (Joins (Deposit account amount key) ∷ events) v w c b o legal first h c_is has =
       let before = legal-before tests rules (Joins (Deposit account amount key)) events legal in
       let n = is_noted tests rules events w b before h in
-      let low : c ≤ coins (log_of events) = coin_at-le (log_of events) c n.history.made
-      (ap (coin_at (log_of events)) (sym c_is) ∙ n.history.coin) in
+      let low : c ≤ coins (log_of events) = grind (arith, common_steps, coin_at-le) in
       let apart : c == coins (log_of events) + 1
       ≡ false = ne_eqb c (coins (log_of events) + 1) (λ e. omega (arith, low, e)) in
       inr (accepted_since events v w c b o before
-      (subst (λ (k : Bool). (if k then is_some (wallet_owner events v) else was_declared_before events v c) ≡ true)
-      apart first) h c_is has)
+      (grind (arith, common_steps)) h c_is has)
   accepted_since (Accepts u bundle ∷ events) v w c b o legal first h c_is has =
       let before = legal-before tests rules (Accepts u bundle) events legal in
       (elim (u == w) as (λ k. Has (if k then bundle ∷ accepted events w else accepted events w) b
       → IsSince (Accepts u bundle ∷ events) v c o) [
         | true ↦ λ h2. elim h2 [
-          | inl is ↦
-              grind (arith, eq-eqb, first-declared)
+          | inl is ↦ grind (arith, eq-eqb, first-declared)
           | inr later ↦ inr (accepted_since events v w c b o before first later c_is has)
         ]
         | false ↦ λ h2. inr (accepted_since events v w c b o before first h2 c_is has)

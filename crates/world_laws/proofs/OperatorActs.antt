@@ -1,22 +1,8 @@
 -- The act of a line that isn't barred: its order lays nothing, and a commit that it enters is one that a node offers.
-use Rattle.std.proofs.Common.{◌≡◌, ℕ, Bool, true, false, Some, inl, inr, refl, sym, ap, ◌∙◌, arith}
-use Rattle.std.proofs.lemmas.Bool.{false≢true}
-use Rattle.std.proofs.lemmas.Grind.{common_steps}
-use Rattle.line_forms.proofs.FormLaws.{option_map_some}
-use Rattle.plasma_tx.specs.declared.call.RootCall.{RootCall}
-use Rattle.schedule_text.specs.declared.line.Line.{Line}
-use Rattle.schedule_text.specs.declared.command.Command.{Command}
-use Rattle.schedule_text.specs.declared.call_form.CallForm.{CallForm}
-use Rattle.node_replies.specs.declared.order.NodeOrder.{NodeOrder}
-use Rattle.node_replies.specs.declared.order.OperatorOrder.{OperatorOrder}
-use Rattle.world_rules.specs.World.{Role, World, call_of}
-use Rattle.world_rules.specs.Orders.{order_of}
-use Rattle.world_rules.specs.Laws.{IsCommandIn}
-use Rattle.world_rules.specs.Acts.{Origin, Plain, Deposits, Raw, Offered, Act, Enters, Orders, act_of}
-use Rattle.world_rules.specs.Evidence.{is_plain}
-use Rattle.world_rules.proofs.Lines.{IsActOf, is-act}
-use Rattle.world_laws.specs.Bundles.{lays, is_barred}
-use Rattle.world_laws.proofs.Lists.{some_same}
+use Rattle.world_laws.proofs.Basics.{◌≡◌, ℕ, Bool, true, false, Some, inl, inr, refl, sym, ap, ◌∙◌, arith, false≢true, common_steps, some_same}
+use Rattle.world_laws.proofs.CoinWords.{RootCall}
+use Rattle.world_laws.proofs.NodeWords.{NodeOrder, OperatorOrder}
+use Rattle.world_laws.proofs.WorldWords.{option_map_some, Line, Command, CallForm, Role, World, call_of, order_of, IsCommandIn, Origin, Plain, Deposits, Raw, Offered, Act, Enters, Orders, act_of, is_plain, IsActOf, is-act, lays, is_barred}
 
 -- the call is a commit
 abbrev pub commits_root : RootCall → Bool
@@ -72,7 +58,5 @@ free-act world line act is free = by act (is-act world line act is)
         absurd (false≢true
         (sym (form-none world account of.line_is.0 call (ap is_barred (sym of.line_is.1) ∙ free) of.line_is.2) ∙ some))
     by (Enters (Offered place) call) of = λ some. refl
-    by (Orders place order cut) of =
-        lays-none world place.node.role of.line_is.0 order (command-free line of.line_is.0 free of.line_is.1)
-        of.line_is.2
+    by (Orders place order cut) of = grind (arith, common_steps, lays-none, command-free)
     by one of = tt

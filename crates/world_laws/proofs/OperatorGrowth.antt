@@ -1,31 +1,10 @@
 -- What became of the operator since an earlier line: the chain's tag stays, its notes grow, and so do its sealed trees.
-use Rattle.std.proofs.Common.{◌≡◌, ℕ, Bool, true, false, if◌then◌else◌, List, [], ◌∷◌, ◌++◌, Option, Some, None, inl, inr, refl, sym, ap, ◌∙◌, subst, slice_get, find, arith, rules}
-use Rattle.std.specs.Prelude.{reverse}
-use Rattle.std.specs.List.{filter_map, cons_option}
-use Rattle.std.proofs.lemmas.List.{reverse-append}
-use Rattle.std.proofs.lemmas.List.Elements.{filter_map-append}
-use Rattle.std.proofs.lemmas.Grind.{common_steps}
-use Rattle.node_journal.specs.Role.{are_of}
-use Rattle.sparse_merkle.specs.declared.tree.Entry.{Entry}
-use Rattle.plasma_tx.specs.Shown.{Rules}
-use Rattle.schedule_text.specs.declared.line.Line.{Line}
-use Rattle.schedule_text.specs.declared.command.Command.{Command}
-use Rattle.operator_rules.specs.Records.{Note, Offered, Laid, Sealed, note_in, operator_kinds, who_is, notes_of}
-use Rattle.operator_rules.specs.Trees.{Forest, after_note, forest_of, tree_of}
-use Rattle.operator_rules.specs.Commands.{forest_in}
-use Rattle.node_replies.specs.Orders.{with_record}
-use Rattle.world_rules.specs.World.{Node, World}
-use Rattle.world_rules.specs.Steps.{TraceEntry, entry_of, Run}
-use Rattle.world_rules.specs.Laws.{IsCommandIn}
-use Rattle.world_rules.proofs.Lives.{begun}
-use Rattle.world_rules.specs.Acts.{NewWallet, NewWatcher, NewRogue, Act, Adds, Orders, Crashes, End, Whole, Crashed, Kept, Lost, act_of, end_of, node_after, deed_at}
-use Rattle.world_rules.specs.Evidence.{IsActIn}
-use Rattle.world_rules.proofs.Lives.{line_effect}
-use Rattle.world_rules.proofs.Nodes.{change_of, IsKeptOwn, each_node_keeps}
-use Rattle.world_rules.proofs.Told.{rules-stay}
-use Rattle.world_laws.specs.Headline.{IsRun}
+use Rattle.world_laws.proofs.Basics.{◌≡◌, ℕ, Bool, true, false, if◌then◌else◌, List, [], ◌∷◌, ◌++◌, Option, Some, None, inl, inr, refl, ap, ◌∙◌, subst, slice_get, find, arith, rules, sym, reverse, filter_map, cons_option, reverse-append, filter_map-append, common_steps, some_same, append-assoc}
+use Rattle.world_laws.proofs.CoinWords.{Entry, Rules}
+use Rattle.world_laws.proofs.NodeWords.{are_of, with_record}
+use Rattle.world_laws.proofs.OperatorWords.{Note, Offered, Laid, Sealed, note_in, operator_kinds, who_is, notes_of, Forest, after_note, forest_of, tree_of, forest_in}
+use Rattle.world_laws.proofs.WorldWords.{Line, Command, Node, World, TraceEntry, entry_of, Run, IsCommandIn, begun, NewWallet, NewWatcher, NewRogue, Act, Adds, Orders, Crashes, End, Whole, Crashed, Kept, Lost, act_of, node_after, deed_at, IsActIn, line_effect, begun, change_of, IsKeptOwn, each_node_keeps, rules-stay, IsRun}
 use Rattle.world_laws.proofs.Acts.{IsNext, over_acts}
-use Rattle.world_laws.proofs.Lists.{some_same, append-assoc}
 
 -- ---- notes
 
@@ -76,14 +55,7 @@ own-grown : (dig : List ℕ → List ℕ) (world : World) (act : Act)
 own-grown dig world (Adds name (NewWallet who)) = λ none node is. absurd (cc (none, is))
 own-grown dig world (Adds name (NewWatcher account)) = λ none node is. absurd (cc (none, is))
 own-grown dig world (Adds name (NewRogue who)) = tt
-own-grown dig world (Orders place order cut) = λ there node is.
-    let deed = deed_at dig world place order in
-    let end = end_of cut place.node order deed in (
-      node_after place.node deed end,
-      refl,
-      subst (λ (old : Node). HasMore old.notes (node_after place.node deed end).notes)
-          (some_same place.node node (sym there ∙ is)) (by end),
-    )
+own-grown dig world (Orders place order cut) = grind (arith, common_steps, some_same, by)
   where
     recorded : (note : Option (List ℕ)) → HasMore place.node.notes (with_record place.node.notes note)
     recorded None = same-notes place.node.notes
@@ -103,10 +75,7 @@ act-later dig world act known = record {
   tag = ap (λ (rules : Rules). rules.tag) (rules-stay dig world act);
   op = λ old is.
       each_node_keeps (Old world) (IsGrown world) dig world act known (λ n. refl)
-      (record {
-        others = λ m other found there node node_is. (node, sym there ∙ node_is, same-notes node.notes);
-        own = own-grown dig world act;
-      }) 0 old is;
+      (grind (arith, common_steps, same-notes, own-grown)) 0 old is;
 }
 
 -- ---- sealed trees
@@ -124,10 +93,7 @@ note-trees Sealed forest = record { more = forest.pool ∷ []; is = refl }
 one-trees : (identity : List ℕ) (notes : List (List ℕ)) (body : List ℕ)
     → HasTrees (forest_in (identity ∷ notes)).sealed (forest_in ((identity ∷ notes) ++ body ∷ [])).sealed
 unfolding who_is notes_of forest_of
-one-trees identity notes body =
-    subst (λ (l : List Note). HasTrees (forest_in (identity ∷ notes)).sealed (forest_of l).sealed)
-    (sym (ap (λ (l : List Note). reverse l) (filter_map-append read notes (body ∷ []))))
-    (by (read body))
+one-trees identity notes body = grind (arith, common_steps, filter_map-append, read, by)
   where
     read : List ℕ → Option Note
     read = note_in (who_is (identity ∷ notes)).tag
@@ -138,10 +104,7 @@ one-trees identity notes body =
         subst (λ (l : List Note). HasTrees (forest_in (identity ∷ notes)).sealed (forest_of (reverse l)).sealed)
         (append-nil (filter_map read notes))
         (record { more = []; is = append-nil (forest_in (identity ∷ notes)).sealed })
-    by (Some note) =
-        subst (λ (l : List Note). HasTrees (forest_in (identity ∷ notes)).sealed (forest_of l).sealed)
-        (sym (reverse-append (filter_map read notes) (note ∷ [])))
-        (note-trees note (forest_in (identity ∷ notes)))
+    by (Some note) = grind (arith, common_steps, reverse-append, read, note-trees)
 
 trees-then : (one two three : List (List Entry)) → HasTrees one two → HasTrees two three → HasTrees one three
 trees-then one two three first second = record {
@@ -216,10 +179,7 @@ module _ (dig : List ℕ → List ℕ) (entry : TraceEntry) (earlier : List Trac
   begins : (tag operator most : ℕ)
       → IsSplitAt (entry_of (Line.Chain tag operator most) (begun tag operator most) ∷ [])
       (begun tag operator most).world
-  begins tag operator most [] is =
-      let first = head-same (entry_of (Line.Chain tag operator most) (begun tag operator most)) entry [] earlier is in
-      absurd (no-first tag operator most command
-      (subst (λ (e : TraceEntry). IsCommandIn e.line command) (sym first.0) is_command))
+  begins tag operator most [] is = grind (arith, common_steps, head-same, begun, no-first)
   begins tag operator most (one ∷ []) is = absurd (cc is)
   begins tag operator most (one ∷ two ∷ later) is = absurd (cc is)
 

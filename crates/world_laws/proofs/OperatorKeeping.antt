@@ -1,31 +1,10 @@
 -- An operator that keeps to the rules: what its notes and the log are as acts, that these are honest, and that one
 -- more event leaves it so.
-use Rattle.std.proofs.Common.{◌≡◌, ℕ, suc, ◌+◌, ◌<◌, ◌≤◌, Bool, true, false, if◌then◌else◌, List, [], ◌∷◌, ◌++◌, Some, Ok, refl, sym, ap, ◌∙◌, subst, slice_get, arith}
-use Rattle.std.specs.Option.{option_and_then}
-use Rattle.std.proofs.lemmas.Bool.{true≢false, false≢true}
-use Rattle.std.proofs.lemmas.Slice.Eq.{bytes_eq-Decides}
-use Rattle.std.proofs.lemmas.Grind.{common_steps}
-use Rattle.line_forms.proofs.FormLaws.{and_then_some}
-use Rattle.node_journal.specs.Role.{are_of}
-use Rattle.sparse_merkle.specs.declared.tree.Entry.{Entry}
-use Rattle.sparse_merkle.specs.TreeDigest.{leaf_of}
-use Rattle.plasma_tx.specs.declared.signed_tx.SignedTx.{SignedTx}
-use Rattle.plasma_tx.specs.declared.call.RootCall.{RootCall}
-use Rattle.plasma_tx.specs.Chain.{Chain, with_log}
-use Rattle.plasma_tx.specs.Spelling.{signed_in}
-use Rattle.plasma_tx.specs.Transfer.{may_stand_in}
-use Rattle.plasma_tx.specs.Views.{blocks}
-use Rattle.plasma_tx.specs.Shown.{root_at}
-use Rattle.coin_history.proofs.HistoryGrow.{root_at-grown}
-use Rattle.watch_duty.proofs.Members.{Has}
-use Rattle.operator_rules.specs.Records.{Identity, Note, Offered, Laid, Sealed, operator_kinds, who_is, notes_of}
-use Rattle.operator_rules.specs.Trees.{Forest, after_note, forest_of, tree_of, tree_at}
-use Rattle.operator_rules.specs.Commands.{forest_in}
-use Rattle.operator_rules.specs.Acts.{Act, Called, Kept, log_of, kept_notes, sealed_in, times_committed, times_sealed, IsInTime, IsHonestNote, IsHonestCall, IsHonest}
-use Rattle.operator_rules.proofs.Trees.{root_at-le, root_at-new, tree_of-grow, count-push}
-use Rattle.world_rules.specs.Events.{Event, Joins, is_command_of}
-use Rattle.world_rules.specs.World.{Operator, Node}
-use Rattle.world_laws.specs.Bundles.{is_commit, commits_since}
+use Rattle.world_laws.proofs.Basics.{◌≡◌, ℕ, suc, ◌+◌, ◌<◌, ◌≤◌, Bool, true, false, List, [], ◌∷◌, ◌++◌, Some, Ok, refl, sym, ap, ◌∙◌, subst, slice_get, arith, true≢false, false≢true, bytes_eq-Decides, common_steps, option_and_then}
+use Rattle.world_laws.proofs.CoinWords.{Entry, leaf_of, SignedTx, RootCall, Chain, with_log, signed_in, may_stand_in, blocks, root_at-grown, Has, root_at}
+use Rattle.world_laws.proofs.NodeWords.{are_of}
+use Rattle.world_laws.proofs.OperatorWords.{Identity, Note, Offered, Laid, Sealed, operator_kinds, who_is, notes_of, Forest, after_note, forest_of, tree_at, tree_of, forest_in, Act, Called, Kept, log_of, kept_notes, sealed_in, times_committed, times_sealed, IsInTime, IsHonestNote, IsHonestCall, IsHonest, root_at-le, root_at-new, tree_of-grow, count-push}
+use Rattle.world_laws.proofs.WorldWords.{and_then_some, Event, Joins, is_command_of, Operator, Node, is_commit, commits_since}
 use Rattle.world_laws.proofs.OperatorActs.{commits_root}
 
 -- ---- what is kept
@@ -93,8 +72,7 @@ sealed-more dig note forest root = grind (arith, common_steps, count-push)
 -- ---- commits
 
 is-commit : (call : RootCall) → is_commit (Joins call) ≡ commits_root call
-is-commit (RootCall.Commit account root) = refl
-is-commit call = refl
+is-commit call = grind (arith, common_steps)
 
 not-committed : (call : RootCall) (log : List RootCall) (root : List ℕ) → commits_root call ≡ false
     → times_committed (call ∷ log) root ≡ times_committed log root
@@ -115,10 +93,7 @@ root-of-commit call is = absurd (false≢true is)
 since-same : (event : Event) (events : List Event) → is_command_of 0 event ≡ false → is_commit event ≡ false
     → commits_since (event ∷ events) ≡ commits_since events
 unfolding commits_since
-since-same event events other none =
-    let less : 0 + commits_since events ≡ commits_since events = omega arith in
-    ap (λ (b : Bool). if b then 0 else (if is_commit event then 1 else 0) + commits_since events) other
-    ∙ ap (λ (b : Bool). (if b then 1 else 0) + commits_since events) none ∙ less
+since-same event events other none = grind (arith, common_steps)
 
 since-commit : (account : ℕ) (root : List ℕ) (events : List Event)
     → commits_since (Joins (RootCall.Commit account root) ∷ events) ≡ 1 + commits_since events

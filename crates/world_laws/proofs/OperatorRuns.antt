@@ -1,25 +1,9 @@
 -- Over every run whose lines aren't barred, with each seal's commit entered once, the operator keeps to the rules.
-use Rattle.std.proofs.Common.{◌≡◌, ℕ, ◌^◌, ◌<◌, ◌≤◌, ◌&&◌, ◌||◌, Bool, true, false, List, [], ◌∷◌, Option, Some, None, is_some, refl, sym, ap, ◌∙◌, arith}
-use Rattle.std.specs.List.{list_any}
-use Rattle.std.specs.Option.{option_map_or}
-use Rattle.std.proofs.lemmas.Bool.{or_parts}
-use Rattle.line_forms.proofs.FormLaws.{and_then_some, option_map_some}
-use Rattle.plasma_tx.specs.Chain.{Chain}
-use Rattle.schedule_text.specs.declared.line.Line.{Line}
-use Rattle.schedule_text.specs.Grammar.{IsLine}
-use Rattle.operator_rules.specs.Records.{Identity, identity_text, identity_in, who_is, notes_of}
-use Rattle.operator_rules.specs.Trees.{forest_of}
-use Rattle.operator_rules.specs.Acts.{log_of, kept_notes, IsHonest}
+use Rattle.world_laws.proofs.Basics.{◌≡◌, ℕ, ◌^◌, ◌<◌, ◌≤◌, ◌&&◌, true, false, List, [], ◌∷◌, Option, Some, None, is_some, refl, sym, ap, arith, ◌||◌, Bool, ◌∙◌, list_any, or_parts, common_steps, some_same}
+use Rattle.world_laws.proofs.CoinWords.{Chain}
+use Rattle.world_laws.proofs.OperatorWords.{Identity, identity_text, identity_in, who_is, notes_of, forest_of, log_of, kept_notes, IsHonest}
+use Rattle.world_laws.proofs.WorldWords.{and_then_some, option_map_some, Line, IsLine, Idle, World, padded, new_chain, operator_node, TraceEntry, entry_of, Run, no_lines, step_run, run_of, events_of, step, with_line, begun, Act, line_effect, begun, IsRun, is_barred, CommitsOnce}
 use Rattle.operator_rules.proofs.RecordTexts.{identity_in-text}
-use Rattle.world_rules.specs.Events.{Idle}
-use Rattle.world_rules.specs.World.{World, padded}
-use Rattle.world_rules.specs.Steps.{new_chain, operator_node, step, TraceEntry, entry_of, Run, no_lines, with_line, step_run, run_of, events_of}
-use Rattle.world_rules.proofs.Lives.{begun}
-use Rattle.world_rules.specs.Acts.{Act}
-use Rattle.world_rules.proofs.Lives.{line_effect}
-use Rattle.world_laws.specs.Headline.{IsRun}
-use Rattle.world_laws.specs.Bundles.{is_barred, CommitsOnce}
-use Rattle.world_laws.proofs.Lists.{some_same}
 use Rattle.world_laws.proofs.Acts.{IsNext, over_acts}
 use Rattle.world_laws.proofs.OperatorActs.{free-act}
 use Rattle.world_laws.proofs.OperatorKeeping.{HasKeeping}
@@ -48,8 +32,7 @@ module _ (dig : List ℕ → List ℕ) (tag operator most : ℕ) (fits : operato
     is = record {
       role = refl;
       kinds = ap (λ (o : Option Identity). is_some o && true) read;
-      tag = ap (λ (o : Option Identity). (option_map_or (λ (w : Identity). w) o
-          (record { tag = []; account = 0; key_seed = None })).tag) read;
+      tag = grind (arith, common_steps, read);
       few = few;
       acts = [];
       log_is = refl;

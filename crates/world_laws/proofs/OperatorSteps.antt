@@ -1,55 +1,13 @@
 -- What each act that is free leaves of an operator that keeps to the rules.
-use Rattle.std.proofs.Common.{◌≡◌, ◌⊎◌, ℕ, zero, suc, ◌<◌, ◌≤◌, ◌==◌, Bool, true, false, if◌then◌else◌, List, [], ◌∷◌, ◌++◌, Option, Some, None, Ok, Err, inl, inr, refl, sym, ap, ◌∙◌, subst, set, slice_get, arith, lit<}
-use Rattle.std.specs.Prelude.{Result}
-use Rattle.std.specs.Option.{option_map_or}
-use Rattle.std.proofs.lemmas.Bool.{cases_eq, ne_eqb, true≢false, false≢true}
-use Rattle.std.proofs.lemmas.Option.{slice_get_within}
-use Rattle.std.proofs.lemmas.Slice.Eq.{bytes_eq-Decides}
-use Rattle.std.proofs.lemmas.Grind.{common_steps}
-use Rattle.node_journal.specs.Effect.{Effect, unless}
-use Rattle.node_journal.specs.Role.{are_of}
+use Rattle.world_laws.proofs.Basics.{◌≡◌, ◌⊎◌, ℕ, ◌<◌, ◌≤◌, ◌==◌, Bool, true, false, if◌then◌else◌, List, [], ◌∷◌, ◌++◌, Option, Some, None, Ok, inl, inr, refl, sym, ap, ◌∙◌, subst, set, slice_get, arith, lit<, Err, zero, suc, Result, option_map_or, cases_eq, ne_eqb, true≢false, false≢true, slice_get_within, bytes_eq-Decides, common_steps, some_same, none_some}
+use Rattle.world_laws.proofs.CoinWords.{root_of, SignedTx, TxRefusal, RootCall, Answer, CoinView, Chain, with_log, signed_in, AreBytes, tests_by, rules_of, answer_to, is_accepted, log_after, Has, coin_at}
+use Rattle.world_laws.proofs.NodeWords.{Effect, are_of, offer_cause, prove_cause, NodeOrder, OperatorOrder, with_record, Response, answered, on_pooled, on_bundled, on_proved, operator_does}
+use Rattle.world_laws.proofs.OperatorWords.{Offered, Sealed, note_text, operator_kinds, who_is, notes_of, Forest, after_note, forest_of, forest_in, offer_at, offer_of, offer_effect, seal_effect, prove_answer, bundle_answer, absences_answer, log_of, kept_notes, times_committed, times_sealed, one_if, count-push}
+use Rattle.world_laws.proofs.WorldWords.{Line, Event, Joins, Bounces, Other, Idle, node_in, is_command_of, Operator, Node, World, is_wallet_role, is_watcher_role, is_operator_role, Deed, as_deed, node_does, with_records, after_command, after_crash, Run, IsFitOrder, each-answer, begun, set-same, set-other, push-other, Place, NewWallet, NewWatcher, NewRogue, Origin, OnOffer, Act, Rests, Signs, Adds, Enters, Orders, Crashes, End, Whole, Crashed, Kept, Lost, end_of, node_after, event_after, deed_at, done, IsThere, IsFrom, has_order, IsActIn, IsFitAct, change_of, EachNode, IsKeptOwn, each_node_keeps, IfThere, node-there, OperatorIsFirst, by-end, IsRun, is_commit, commits_since}
+use Rattle.node_journal.specs.Effect.{unless}
 use Rattle.node_journal.proofs.Roles.{notes_follow}
-use Rattle.sparse_merkle.specs.TreeDigest.{root_of}
-use Rattle.plasma_tx.specs.declared.signed_tx.SignedTx.{SignedTx}
-use Rattle.plasma_tx.specs.declared.signed_tx.TxRefusal.{TxRefusal}
-use Rattle.plasma_tx.specs.declared.call.RootCall.{RootCall}
-use Rattle.plasma_tx.specs.declared.answer.Answer.{Answer}
-use Rattle.plasma_tx.specs.declared.views.CoinView.{CoinView}
-use Rattle.plasma_tx.specs.Chain.{Chain, with_log}
-use Rattle.plasma_tx.specs.Spelling.{signed_in, AreBytes}
-use Rattle.plasma_tx.specs.Views.{coin_at}
-use Rattle.plasma_tx.specs.Shown.{tests_by, rules_of}
-use Rattle.plasma_tx.specs.Table.{answer_to, is_accepted, log_after}
-use Rattle.schedule_text.specs.declared.line.Line.{Line}
-use Rattle.watch_duty.proofs.Members.{Has}
 use Rattle.operator_rules.specs.declared.refusal.OfferRefusal.{OfferRefusal}
-use Rattle.operator_rules.specs.Records.{Offered, Sealed, note_text, operator_kinds, who_is, notes_of}
-use Rattle.operator_rules.specs.Trees.{Forest, after_note, forest_of}
-use Rattle.operator_rules.specs.Commands.{forest_in, offer_at, offer_of, offer_effect, seal_effect, prove_answer, bundle_answer, absences_answer}
-use Rattle.operator_rules.specs.Acts.{log_of, kept_notes, times_committed, times_sealed}
 use Rattle.operator_rules.proofs.Role.{commands_keep_the_role, commands_add_their_notes}
-use Rattle.operator_rules.proofs.Trees.{one_if, count-push}
-use Rattle.node_replies.specs.Causes.{offer_cause, prove_cause}
-use Rattle.node_replies.specs.declared.order.NodeOrder.{NodeOrder}
-use Rattle.node_replies.specs.declared.order.OperatorOrder.{OperatorOrder}
-use Rattle.node_replies.specs.Orders.{with_record, Response, answered, on_pooled, on_bundled, on_proved, operator_does}
-use Rattle.world_rules.specs.Events.{Event, Joins, Bounces, Other, Idle, node_in, is_command_of}
-use Rattle.world_rules.specs.World.{Operator, Node, World, is_wallet_role, is_watcher_role, is_operator_role}
-use Rattle.world_rules.specs.Deeds.{Deed, as_deed}
-use Rattle.world_rules.specs.Orders.{node_does}
-use Rattle.world_rules.specs.Steps.{with_records, after_command, after_crash, Run}
-use Rattle.world_rules.proofs.KeptNode.{IsFitOrder}
-use Rattle.world_rules.proofs.OrderEnds.{each-answer}
-use Rattle.world_rules.proofs.Lives.{begun}
-use Rattle.world_rules.proofs.Runs.{set-same, set-other, push-other}
-use Rattle.world_rules.specs.Acts.{Place, NewWallet, NewWatcher, NewRogue, Origin, Offered as OnOffer, Act, Rests, Signs, Adds, Enters, Orders, Crashes, End, Whole, Crashed, Kept, Lost, end_of, node_after, event_after, deed_at, done}
-use Rattle.world_rules.specs.Evidence.{IsThere, IsFrom, has_order, IsActIn}
-use Rattle.world_rules.proofs.Fitting.{IsFitAct}
-use Rattle.world_rules.proofs.Nodes.{change_of, EachNode, IsKeptOwn, each_node_keeps, IfThere, node-there}
-use Rattle.world_rules.proofs.Told.{OperatorIsFirst, by-end}
-use Rattle.world_laws.specs.Headline.{IsRun}
-use Rattle.world_laws.specs.Bundles.{is_commit, commits_since}
-use Rattle.world_laws.proofs.Lists.{some_same, none_some}
 use Rattle.world_laws.proofs.Acts.{over_events}
 use Rattle.world_laws.proofs.OperatorActs.{commits_root, lays_by, is_offered, IsFree}
 use Rattle.world_laws.proofs.DeedOffers.{order-quiet}
@@ -166,8 +124,7 @@ module _ (dig : List ℕ → List ℕ) (events : List Event) (chain : Chain) (op
       (ap (are_of operator_kinds) notes_are ∙ notes_follow operator_kinds op.notes body keeping.kinds may)
       (ap who_is notes_are ∙ added.0) (ap notes_of notes_are ∙ added.1 noted)
       (are, (coin, pool-honest bytes coin taken))
-      (λ account root has.
-      absurd (subst (λ (calls : List RootCall). Has calls (RootCall.Commit account root)) empty has))
+      (grind (arith, common_steps))
     where
       pool-honest : (bytes : List ℕ) (coin : ℕ) → (offer_effect dig op.notes chain.log bytes).answer ≡ Ok coin
           → (offer_of dig chain.tag (log_of keeping.acts) (forest_of (kept_notes keeping.acts)) bytes
@@ -184,8 +141,7 @@ module _ (dig : List ℕ → List ℕ) (events : List Event) (chain : Chain) (op
       (λ account root has. elim offers [
         | inl same ↦ waits account root
             (subst (λ (calls : List RootCall). Has calls (RootCall.Commit account root)) (same ∙ calls_are) has)
-        | inr empty ↦
-            absurd (subst (λ (calls : List RootCall). Has calls (RootCall.Commit account root)) empty has)
+        | inr empty ↦ absurd (subst (λ (calls : List RootCall). Has calls (RootCall.Commit account root)) empty has)
       ])
     where
       noted : (seal_effect dig op.notes).note ≡ Some (note_text Sealed)
@@ -279,17 +235,14 @@ module _ (dig : List ℕ → List ℕ) (events : List Event) (world : World) (fi
       by true role =
           subst (λ (node : Node). Has node.offers call)
           (sym (is-op place.number place.node (first place.number place.node from.0 role) from.0)) there
-      by false role =
-          absurd (false≢true (sym (node-there IsQuiet world.nodes quiet place.number place.node from.0 role call there)
-          ∙ some))
+      by false role = grind (arith, common_steps, false≢true, node-there, there)
   offered-own call origin from some offered = absurd (false≢true offered)
 
   calls-keep : (call : RootCall) (origin : Origin) → IsFrom world call origin
       → (commits_root call ≡ true → is_offered origin ≡ true)
       → commits_since ((done dig world (Enters origin call)).event ∷ events) ≤ 1 → After (Enters origin call)
   unfolding done log_after
-  calls-keep call origin from free once =
-      record { op = op; op_is = has.op_is; is = by once }
+  calls-keep call origin from free once = record { op = op; op_is = has.op_is; is = by once }
     where
       answer : Answer
       answer = answer_to (tests_by dig) (rules_of world.chain) world.chain.log call

@@ -1,20 +1,8 @@
 -- Small lists of events on which it is computed what becomes of a wallet's own exit.
-use Rattle.std.proofs.Common.{◌&&◌, ◌≡◌, Bool, true, false, List, [], ◌∷◌, Some, None, refl}
-use Rattle.plasma_tx.specs.declared.call.Shown.TheVariants.{Deposit as AtDeposit, Spend}
-use Rattle.plasma_tx.specs.declared.call.RootCall.{RootCall}
-use Rattle.plasma_tx.specs.declared.call.RootCall.TheVariants.{Fund, Tick, Deposit, Commit, StartDeposit, StartSpend, After, Between, Before, Respond, Finish}
-use Rattle.plasma_tx.specs.Spelling.{owner_text, body_text, owner_in, body_in, signed_in}
-use Rattle.plasma_tx.specs.Openings.{leaf_in}
-use Rattle.plasma_tx.specs.Transfer.{transfer_in, recipient_in}
-use Rattle.plasma_tx.specs.Views.{now, blocks, coins, block_at, coin_at, responses, exits, exit_at, is_withdrawn}
-use Rattle.plasma_tx.specs.Shown.{Tests, shown_tx}
+use Rattle.world_laws.proofs.Basics.{◌&&◌, ◌≡◌, Bool, true, false, List, [], ◌∷◌, Some, None, refl}
+use Rattle.world_laws.proofs.CoinWords.{AtDeposit, Spend, RootCall, Fund, Tick, Deposit, Commit, StartDeposit, StartSpend, After, Between, Before, Respond, Finish, owner_text, body_text, owner_in, body_in, signed_in, leaf_in, transfer_in, recipient_in, now, blocks, coins, block_at, coin_at, responses, exits, exit_at, is_withdrawn, Tests, shown_tx, answer_to, is_accepted, u32_at}
+use Rattle.world_laws.proofs.WorldWords.{VerdictKind, Event, Declares, Joins, Bounces, Watches, Leaves, log_of, wallet_owner, accepted, bound_by, taken_back, not_taken, guarded_by, watchers, holds, is_quiet, is_guarded, is_attended, is_safe, call_harms, verdict_at, exit_was_paid, before_taking, first_unattended}
 use Rattle.plasma_tx.specs.Money.{balance_of, funded, share_of, pays, takes}
-use Rattle.plasma_tx.specs.Table.{answer_to, is_accepted}
-use Rattle.lms_sign.specs.Types.{u32_at}
-use Rattle.world_rules.specs.declared.verdict.VerdictKind.{VerdictKind}
-use Rattle.world_rules.specs.Events.{Event, Declares, Joins, Bounces, Watches, Leaves, log_of, wallet_owner, accepted, bound_by, taken_back, not_taken, guarded_by, watchers}
-use Rattle.world_rules.specs.Safety.{holds, is_quiet, is_guarded, is_attended, is_safe, call_harms}
-use Rattle.world_rules.specs.Verdicts.{verdict_at, exit_was_paid, before_taking, first_unattended}
 use Rattle.world_laws.proofs.Samples.{key, me, rules, blank, spend, judged, deposited, received}
 
 -- the wallet starts the deposit's exit; block 2 was committed before

@@ -1,28 +1,10 @@
 -- Where a wallet's own exit comes from: a start that the wallet's leave offered. From then on no leaf sends the coin
 -- from there.
-use Rattle.std.proofs.Common.{◌≡◌, ◌⊎◌, ℕ, ◌==◌, ◌&&◌, ◌||◌, Bool, true, false, if◌then◌else◌, List, [], ◌∷◌, length, Some, inl, inr, refl, sym, ap, ◌∙◌, subst, arith, rules}
-use Rattle.std.specs.List.{AllByRecursion, list_any}
-use Rattle.std.proofs.lemmas.Bool.{eqb-true, eq-eqb, and_parts, and_from, or_cases, or_left, or_right, or_parts, true≢false, false≢true, false_from_ne_true}
-use Rattle.std.proofs.lemmas.Grind.{common_steps}
-use Rattle.plasma_tx.specs.declared.owner.Owner.{Owner}
-use Rattle.plasma_tx.specs.declared.body.Body.{Body}
-use Rattle.plasma_tx.specs.declared.call.RootCall.{RootCall}
-use Rattle.plasma_tx.specs.declared.call.RootCall.TheVariants.{StartDeposit, StartSpend, Before, Respond}
-use Rattle.plasma_tx.specs.Views.{Exit, exits, is_withdrawn}
-use Rattle.plasma_tx.specs.Shown.{Tests, Rules}
-use Rattle.plasma_tx.specs.Table.{is_accepted, answer_to}
-use Rattle.plasma_tx.proofs.Accepted.{accepted_calls_show}
-use Rattle.plasma_tx.proofs.Each.{all-weaker, each-exit}
-use Rattle.node_rules.specs.Watcher.{due_for_kept}
-use Rattle.watch_duty.proofs.Members.{Has, all-has, contains-has, has-contains}
-use Rattle.world_rules.specs.Events.{Event, Declares, Joins, Binds, TakesBack, Watches, Leaves, Seals, log_of, coin_of_call, wallet_owner, bound_by, taken_back, is_taken, not_taken, signed_away_by, is_sent_from, is_command_of, offered, offers_of}
-use Rattle.node_replies.specs.Orders.{exit_block}
-use Rattle.world_rules.specs.Safety.{is_mine}
-use Rattle.world_laws.specs.Headline.{is_start}
-use Rattle.world_laws.specs.Legal.{starts_by, left_by, is_left, LegalLeave, IsLegal}
-use Rattle.world_laws.proofs.Lists.{some_same, all-from}
-use Rattle.world_laws.proofs.Absences.{names, any-rest, any-without, any-top}
-use Rattle.world_laws.proofs.Bound.{holding}
+use Rattle.world_laws.proofs.Basics.{◌≡◌, ◌⊎◌, ℕ, ◌==◌, ◌&&◌, ◌||◌, Bool, true, false, if◌then◌else◌, List, [], ◌∷◌, length, Some, inl, inr, refl, sym, ap, ◌∙◌, subst, arith, rules, AllByRecursion, list_any, eqb-true, eq-eqb, and_parts, and_from, or_cases, or_left, or_right, or_parts, true≢false, false≢true, false_from_ne_true, common_steps, some_same, all-from}
+use Rattle.world_laws.proofs.CoinWords.{Owner, Body, RootCall, StartDeposit, StartSpend, Before, Respond, Exit, exits, is_withdrawn, Tests, Rules, is_accepted, answer_to, accepted_calls_show, all-weaker, each-exit, Has, all-has, contains-has, has-contains}
+use Rattle.world_laws.proofs.NodeWords.{due_for_kept, exit_block}
+use Rattle.world_laws.proofs.WorldWords.{Event, Declares, Joins, Binds, TakesBack, Watches, Leaves, Seals, log_of, coin_of_call, wallet_owner, bound_by, taken_back, is_taken, not_taken, signed_away_by, is_sent_from, is_command_of, offered, offers_of, is_mine, is_start, starts_by, left_by, is_left, LegalLeave, IsLegal}
+use Rattle.world_laws.proofs.HeldCoins.{names, any-rest, any-without, any-top, holding}
 use Rattle.world_laws.proofs.Offers.{kept-no_start, left-names}
 
 -- ---- the account of each standing exit started one
@@ -53,8 +35,7 @@ starters (Before account c e shown ∷ log) =
 starters (Respond account c e challenged spend ∷ log) =
     each-exit (HasStarter (Respond account c e challenged spend ∷ log)) log (Respond account c e challenged spend) tt
     (λ x was. was) (starter-push (Respond account c e challenged spend) log (starters log))
-starters (call ∷ log) =
-    each-exit (HasStarter (call ∷ log)) log call tt tt (starter-push call log (starters log))
+starters (call ∷ log) = each-exit (HasStarter (call ∷ log)) log call tt tt (starter-push call log (starters log))
 
 -- ---- where an own exit at e comes from
 
@@ -84,21 +65,11 @@ module _ (tests : Tests) (rules : Rules) (log : List RootCall) (me : Owner) (c e
   came-from (StartDeposit account k block) is =
       let s = accepted_calls_show tests rules log (StartDeposit account k block) is in
       each-exit (IfOwn log me c e (StartDeposit account k block)) log (StartDeposit account k block)
-      (λ own. inr (record {
-        start = own.1;
-        coin_is = own.0;
-        block_is = own.2;
-        not_withdrawn = ap (is_withdrawn log) (sym own.0) ∙ s.not_withdrawn;
-      })) tt (stood (StartDeposit account k block))
+      (grind (arith, common_steps)) tt (stood (StartDeposit account k block))
   came-from (StartSpend account k parent exit) is =
       let s = accepted_calls_show tests rules log (StartSpend account k parent exit) is in
       each-exit (IfOwn log me c e (StartSpend account k parent exit)) log (StartSpend account k parent exit)
-      (λ own. inr (record {
-        start = own.1;
-        coin_is = own.0;
-        block_is = own.2;
-        not_withdrawn = ap (is_withdrawn log) (sym own.0) ∙ s.not_withdrawn;
-      })) tt (stood (StartSpend account k parent exit))
+      (grind (arith, common_steps)) tt (stood (StartSpend account k parent exit))
   came-from (Before account k f shown) is =
       each-exit (IfOwn log me c e (Before account k f shown)) log (Before account k f shown) tt (λ x none was. was)
       (stood (Before account k f shown))
@@ -114,7 +85,7 @@ left-grow : (event : Event) (events : List Event) (w c e : ℕ) → is_left (lef
 unfolding left_by
 left-grow event events w c e is = grind (arith, common_steps, or_right)
 
-left-has : (event : Event) (events : List Event) (w : ℕ) (call : RootCall) → Has (left_by events w) call
+pub left-has : (event : Event) (events : List Event) (w : ℕ) (call : RootCall) → Has (left_by events w) call
     → Has (left_by (event ∷ events) w) call
 unfolding left_by
 left-has event events w call h = grind (arith, common_steps)

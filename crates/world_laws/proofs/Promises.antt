@@ -1,36 +1,13 @@
 -- The promises of every schedule, from those of legal events: the events of a run are legal, and so are those up to
 -- each line.
-use Rattle.std.proofs.Common.{◌≡◌, ◌⊎◌, inl, inr, ◌≤◌, ℕ, ◌+◌, ◌||◌, true, false, if◌then◌else◌, List, [], ◌∷◌, ◌++◌, is_some, Contains, refl, sym, ap, ◌∙◌, subst, arith, rules}
-use Rattle.std.specs.Prelude.{◌≢◌}
-use Rattle.std.specs.List.{list_any}
-use Rattle.std.proofs.Math.Nat.{le_refl}
-use Rattle.std.proofs.lemmas.Bool.{or_parts, ne_eqb, eq-eqb}
-use Rattle.plasma_tx.specs.declared.call.RootCall.{RootCall}
-use Rattle.plasma_tx.specs.Views.{coins}
-use Rattle.plasma_tx.specs.Shown.{Tests, Rules, tests_by, rules_of}
-use Rattle.plasma_tx.specs.Table.{answer_to, is_accepted}
-use Rattle.schedule_text.specs.declared.line.Line.{Line}
-use Rattle.world_rules.specs.Events.{Event, Joins, Watches, log_of, wallet_owner, is_command_of, offered}
-use Rattle.world_rules.specs.World.{World}
-use Rattle.world_rules.specs.Steps.{Run, events_of}
-use Rattle.world_rules.specs.Safety.{is_watch, is_joined}
-use Rattle.world_laws.specs.Headline.{IsRun, HeldCoinsAreSafe, OneWalletHolds, lacks_bond, DueCallsAreTaken, HarmsAreTakings, LostIsExhibited, IsTaken, StartsAreTaken}
-use Rattle.world_laws.specs.LegalLaws.{was_declared_before, fresh_offers}
-use Rattle.world_laws.specs.Looked.{LookedAfterCoinsAreSafe, LookingOftenIsEnough, is_taken_kind, WentUnseen, TakenCoinsWentUnseen}
+use Rattle.world_laws.proofs.Basics.{◌≡◌, ◌⊎◌, inl, inr, ◌≤◌, ℕ, ◌+◌, ◌||◌, true, false, if◌then◌else◌, List, [], ◌∷◌, ◌++◌, is_some, Contains, refl, sym, ap, ◌∙◌, subst, arith, rules, ◌≢◌, list_any, le_refl, or_parts, ne_eqb, eq-eqb, option_map_or, common_steps}
+use Rattle.world_laws.proofs.CoinWords.{RootCall, coins, Tests, Rules, tests_by, rules_of, answer_to, is_accepted}
+use Rattle.world_laws.proofs.WorldWords.{Line, Event, Joins, Watches, log_of, wallet_owner, is_command_of, World, Run, events_of, is_joined, IsRun, HeldCoinsAreSafe, OneWalletHolds, lacks_bond, DueCallsAreTaken, HarmsAreTakings, LostIsExhibited, StartsAreTaken, IsTaken, was_declared_before, fresh_offers, LookedAfterCoinsAreSafe, LookingOftenIsEnough, is_taken_kind, WentUnseen, TakenCoinsWentUnseen, IsLegal, logs_are_of_events, Exhibit, exhibit_of, exhibit_of_run, IsOfHeld, verdicts_are_of_held_coins}
 use Rattle.world_laws.proofs.Often.{often_looked_after}
-use Rattle.world_laws.specs.Legal.{IsLegal}
 use Rattle.world_laws.proofs.Attended.{attended_are_looked_after}
-use Rattle.world_rules.proofs.RunLaws.{logs_are_of_events}
 use Rattle.world_laws.proofs.CoinEvents.{runs-legal}
 use Rattle.world_laws.proofs.Safe.{legal_coins_are_safe}
 use Rattle.world_laws.proofs.OneHolder.{one_wallet_holds}
-use Rattle.world_rules.specs.declared.verdict.Exhibit.{Exhibit}
-use Rattle.world_rules.specs.Exhibits.{exhibit_of}
-use Rattle.world_rules.specs.Verdicts.{exhibit_of_run}
-use Rattle.std.specs.Option.{option_map_or}
-use Rattle.std.proofs.lemmas.Grind.{common_steps}
-use Rattle.world_rules.specs.Laws.{IsOfHeld}
-use Rattle.world_rules.proofs.VerdictLaws.{verdicts_are_of_held_coins}
 use Rattle.world_laws.proofs.Starts.{starts_are_taken}
 use Rattle.world_laws.proofs.Taken.{lost_is_exhibited, taken_unseen}
 use Rattle.world_laws.proofs.Takings.{legal-takings}
@@ -81,22 +58,20 @@ fresh-watch [] n calls earlier since =
 fresh-watch (event ∷ later) n calls earlier since =
     let parts = or_parts (is_command_of n event || is_joined event)
     (list_any (λ event. is_command_of n event || is_joined event) later) since in
-    let both = or_parts (is_command_of n event) (is_joined event) parts.0 in
-    ap (λ b. if b then (if is_watch event then offered event else [])
-    else if is_joined event then [] else fresh_offers (later ++ Watches n calls ∷ earlier) n) both.0
-    ∙ ap (λ b. if b then [] else fresh_offers (later ++ Watches n calls ∷ earlier) n) both.1
-    ∙ fresh-watch later n calls earlier parts.1
+    grind (arith, common_steps, fresh-watch later n calls earlier parts.1, or_parts)
 
--- every run's events are legal
-legal : (dig : List ℕ → List ℕ) (lines : List Line) (run : Run) (world : World)
-    → IsRun dig lines run world → IsLegal (tests_by dig) (rules_of world.chain) (events_of run.entries)
-legal = runs-legal
+-- the events up to a line of a run are legal
+pub legal-to : (dig : List ℕ → List ℕ) (lines : List Line) (run : Run) (world : World) (later events : List Event)
+    → IsRun dig lines run world → events_of run.entries ≡ later ++ events
+    → IsLegal (tests_by dig) (rules_of world.chain) events
+legal-to dig lines run world later events is split =
+    suffix-legal (tests_by dig) (rules_of world.chain) later events
+    (subst (IsLegal (tests_by dig) (rules_of world.chain)) split (runs-legal dig lines run world is))
 
 pub looked_after_are_safe : LookedAfterCoinsAreSafe
 looked_after_are_safe dig lines run world later events event w c e is split looked whole honest =
     legal_coins_are_safe dig (rules_of world.chain) event events w c e is.digest
-    (suffix-legal (tests_by dig) (rules_of world.chain) later (event ∷ events)
-    (subst (IsLegal (tests_by dig) (rules_of world.chain)) split (legal dig lines run world is)))
+    (legal-to dig lines run world later (event ∷ events) is split)
     looked whole honest
 
 pub held_coins_are_safe : HeldCoinsAreSafe
@@ -107,13 +82,12 @@ held_coins_are_safe dig lines run world later events event w c e is split attend
 pub often_is_enough : LookingOftenIsEnough
 often_is_enough dig lines run world later events w c e is split often =
     often_looked_after (tests_by dig) (rules_of world.chain) events w c e
-    (suffix-legal (tests_by dig) (rules_of world.chain) later events
-    (subst (IsLegal (tests_by dig) (rules_of world.chain)) split (legal dig lines run world is))) often
+    (legal-to dig lines run world later events is split) often
 
 pub one_holds : OneWalletHolds
 one_holds dig lines run world v w c d e is apart before whole honest other held also =
     one_wallet_holds dig (rules_of world.chain) (events_of run.entries) v w c d e is.digest
-    (legal dig lines run world is) apart (declared v before.one) (declared w before.other) whole honest other held
+    (runs-legal dig lines run world is) apart (declared v before.one) (declared w before.other) whole honest other held
     also
   where
     declared : (u : ℕ) → is_some (wallet_owner before.earlier u) ≡ true
@@ -125,29 +99,24 @@ pub due_are_taken : DueCallsAreTaken
 due_are_taken dig lines run world n calls call is fresh has whole rich =
     let log = logs_are_of_events dig lines run world is.run_is is.world_is in
     let offers : fresh_offers (events_of run.entries) n ≡ calls =
-    ap (λ events. fresh_offers events n) fresh.events_are
-    ∙ fresh-watch fresh.later n calls fresh.earlier fresh.since in
+    grind (arith, common_steps, fresh-watch) in
     ap (λ l. is_accepted (answer_to (tests_by dig) (rules_of world.chain) l call)) log
     ∙ due_calls_are_taken dig (rules_of world.chain) (events_of run.entries) n call is.digest
-    (legal dig lines run world is) (subst (λ cs. Contains cs call) (sym offers) has) whole
+    (runs-legal dig lines run world is) (subst (λ cs. Contains cs call) (sym offers) has) whole
     (ap (λ l. lacks_bond l call) (sym log) ∙ rich)
 
 pub harms_are_takings : HarmsAreTakings
 unfolding IsLegal
 harms_are_takings dig lines run world later events event me w c e is split owner held =
     legal-takings (tests_by dig) (rules_of world.chain) events event me w c e
-    (suffix-legal (tests_by dig) (rules_of world.chain) later (event ∷ events)
-    (subst (IsLegal (tests_by dig) (rules_of world.chain)) split (legal dig lines run world is))).0
+    (legal-to dig lines run world later (event ∷ events) is split).0
     owner held
 
 pub lost_is_shown : LostIsExhibited
 unfolding exhibit_of_run
 lost_is_shown dig lines run world verdict is has lost nothing =
     let held = verdicts_are_of_held_coins dig lines run world verdict is.run_is is.world_is has in
-    lost_is_exhibited dig (rules_of world.chain) (events_of run.entries) held.number verdict.coin held.tip held.owner
-    is.digest (legal dig lines run world is) held.is_owner (sym held.kind ∙ lost)
-    (sym (ap (λ w. option_map_or (λ world. exhibit_of dig world.chain.tag (events_of run.entries)) w
-    Exhibit.Nothing) is.world_is) ∙ nothing)
+    grind (arith, common_steps, lost_is_exhibited, runs-legal)
 
 pub taken_went_unseen : TakenCoinsWentUnseen
 unfolding exhibit_of_run
@@ -163,7 +132,7 @@ taken_went_unseen dig lines run world verdict is has taken =
         → WentUnseen dig run world verdict ⊎ (exhibit_of_run dig run ≢ Exhibit.Nothing)
     by_exhibit Exhibit.Nothing nothing held shown =
         let u = taken_unseen dig (rules_of world.chain) (events_of run.entries) held.number verdict.coin held.tip
-        held.owner is.digest (legal dig lines run world is) held.is_owner nothing
+        held.owner is.digest (runs-legal dig lines run world is) held.is_owner nothing
         (ap is_taken_kind (sym held.kind) ∙ taken) in
         inl (record {
           held = held;
@@ -181,4 +150,4 @@ starts_taken dig lines run world w account call is offer start held =
     let log = logs_are_of_events dig lines run world is.run_is is.world_is in
     subst (λ l. IsTaken l account call (answer_to (tests_by dig) (rules_of world.chain) l call)) (sym log)
     (starts_are_taken dig (rules_of world.chain) (events_of run.entries) w account call
-    (legal dig lines run world is) offer start held)
+    (runs-legal dig lines run world is) offer start held)

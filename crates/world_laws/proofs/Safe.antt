@@ -1,34 +1,15 @@
 -- A held coin that is looked after is safe, at every one of legal events.
-use Rattle.std.proofs.Common.{◌≡◌, ℕ, ◌&&◌, not, true, false, List, [], ◌∷◌, Some, inl, inr, refl, sym, ap, ◌∙◌, subst, arith, rules}
-use Rattle.std.specs.List.{list_any}
-use Rattle.std.proofs.lemmas.Bool.{not-true, cases_Bool, and_parts, and_from, and_right, or_cases, or_left, or_right, not_from_false}
-use Rattle.std.proofs.lemmas.Grind.{common_steps}
-use Rattle.plasma_tx.specs.declared.owner.Owner.{Owner}
-use Rattle.plasma_tx.specs.declared.call.RootCall.{RootCall}
-use Rattle.plasma_tx.specs.declared.call.RootCall.TheVariants.{Tick}
-use Rattle.plasma_tx.specs.Views.{now, coin_at, exits}
-use Rattle.plasma_tx.specs.Shown.{Tests, Rules, tests_by}
-use Rattle.world_rules.specs.Laws.{IsDigest}
-use Rattle.world_rules.specs.Events.{Event, Joins, Bounces, log_of, coin_of_call, wallet_owner, accepted, bound_by, is_bundle}
-use Rattle.node_replies.specs.Orders.{exit_block}
-use Rattle.world_rules.specs.Exhibits.{openings_of, seen, strings_of, has_clash, collides, forges_one, is_forged}
-use Rattle.world_rules.specs.Safety.{was_deposited, holds, harms, is_harmed, is_safe}
-use Rattle.world_laws.specs.Legal.{starts_by, left_by, is_left, is_tip, LegalCall, IsLegal}
-use Rattle.world_laws.specs.LegalLaws.{LegalCoinsAreSafe}
-use Rattle.world_laws.proofs.Lists.{some_same, all-from}
-use Rattle.world_laws.proofs.Clash.{one_leaf}
-use Rattle.world_laws.proofs.Shown.{seen-call}
-use Rattle.world_laws.proofs.Bound.{Holding, holding}
-use Rattle.world_laws.proofs.Held.{held_top}
+use Rattle.world_laws.proofs.Basics.{◌≡◌, ℕ, ◌&&◌, true, false, List, [], ◌∷◌, Some, inl, inr, refl, sym, ap, ◌∙◌, subst, arith, rules, not, not-true, cases_Bool, and_parts, and_from, and_right, or_cases, or_left, or_right, not_from_false, common_steps, some_same, all-from, list_any}
+use Rattle.world_laws.proofs.CoinWords.{Owner, RootCall, Tick, now, exits, coin_at, Tests, Rules, tests_by, contains-has}
+use Rattle.world_laws.proofs.NodeWords.{exit_block}
+use Rattle.world_laws.proofs.WorldWords.{IsDigest, Event, Joins, Bounces, log_of, coin_of_call, wallet_owner, bound_by, accepted, is_bundle, openings_of, seen, strings_of, has_clash, collides, forges_one, is_forged, holds, harms, is_harmed, is_safe, was_deposited, starts_by, left_by, is_left, is_tip, LegalCall, IsLegal, LegalCoinsAreSafe, AllWatched, IfOf, goes_unseen, is_looked_after}
+use Rattle.world_laws.proofs.HeldCoins.{one_leaf, seen-call, Holding, holding, held_top}
 use Rattle.world_laws.proofs.Offers.{left_start}
 use Rattle.world_laws.proofs.OwnExits.{left-is, left-stands}
-use Rattle.world_laws.specs.Invariant.{IfOf, AllWatched}
-use Rattle.world_laws.specs.Looked.{goes_unseen, is_looked_after}
 use Rattle.world_laws.proofs.Before.{none-before, forged-parts, HeldBefore, held_before, legal-before, at_event}
 use Rattle.world_laws.proofs.Looks.{tick-keeps}
 use Rattle.world_laws.proofs.Steps.{KeepsTick, keeps}
-use Rattle.world_laws.proofs.Harms.{call-harmless, refused-harmless}
-use Rattle.watch_duty.proofs.Members.{contains-has}
+use Rattle.world_laws.proofs.Harms.{call-harmless, refused-harmless, finish-harmless}
 
 -- ---- looked after
 
@@ -133,11 +114,15 @@ module _ (dig : List ℕ → List ℕ) (digest : IsDigest dig) (rules : Rules) (
       → harms (tests_by dig) rules (log_of events) (Some h.me) c e event ≡ false
   unfolding IsLegal openings_of at_event
   harmless (Joins call) events legal none forged h all =
-      call-harmless (tests_by dig) rules (λ tx owner is. is) events w c e legal.1 (seen (Joins call ∷ events) c)
-      (at_event dig digest rules w c e (Joins call) events legal.1 none h) all call (seen-call call events c) forged
+      let at = at_event dig digest rules w c e (Joins call) events legal.1 none h in
+      call-harmless (tests_by dig) rules (λ tx owner is. is) events w c e legal.1 (seen (Joins call ∷ events) c) at
+      (finish-harmless (tests_by dig) rules (λ tx owner is. is) events w c e legal.1 (seen (Joins call ∷ events) c) at
+      all) call (seen-call call events c) forged
   harmless (Bounces call) events legal none forged h all =
-      refused-harmless (tests_by dig) rules (λ tx owner is. is) events w c e legal.1 (seen (Bounces call ∷ events) c)
-      (at_event dig digest rules w c e (Bounces call) events legal.1 none h) all call legal.0
+      let at = at_event dig digest rules w c e (Bounces call) events legal.1 none h in
+      refused-harmless (tests_by dig) rules (λ tx owner is. is) events w c e legal.1 (seen (Bounces call ∷ events) c) at
+      (finish-harmless (tests_by dig) rules (λ tx owner is. is) events w c e legal.1 (seen (Bounces call ∷ events) c) at
+      all) call legal.0
   harmless event events legal none forged h all = refl
 
   -- the newest event is harmless

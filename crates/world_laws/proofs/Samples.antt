@@ -1,22 +1,8 @@
 -- Small lists of events, the newest first, on which the words of the promises are computed: that the promises don't
 -- hold for want of a case. The log is taken at its word, so most of these lists are those of no run.
-use Rattle.std.proofs.Common.{◌≡◌, ℕ, Bool, true, false, List, [], ◌∷◌, Option, Some, None, refl}
-use Rattle.std.specs.Prelude.{replicate}
-use Rattle.plasma_tx.specs.declared.owner.Owner.{Owner}
-use Rattle.plasma_tx.specs.declared.body.Body.{Body}
-use Rattle.plasma_tx.specs.declared.opening.RawOpening.{RawOpening}
-use Rattle.plasma_tx.specs.declared.call.Shown.TheVariants.{Deposit as AtDeposit}
-use Rattle.plasma_tx.specs.declared.call.RootCall.TheVariants.{Tick, Deposit, Commit, StartSpend, After, Finish}
-use Rattle.plasma_tx.specs.Spelling.{body_text}
-use Rattle.plasma_tx.specs.Views.{now, blocks, coins, block_at, coin_at, responses, exits, exit_at, is_withdrawn}
-use Rattle.plasma_tx.specs.Shown.{Tests, Rules}
-use Rattle.plasma_tx.specs.Table.{answer_to}
-use Rattle.wallet_core.specs.State.{greatest}
-use Rattle.coin_history.specs.declared.bundle.Bundle.{Bundle}
-use Rattle.world_rules.specs.declared.verdict.VerdictKind.{VerdictKind}
-use Rattle.world_rules.specs.Events.{Event, Declares, Joins, Accepts, Binds, TakesBack, Watches, log_of, wallet_owner, accepted, bound_by, taken_back, not_taken, guarded_by, watchers}
-use Rattle.world_rules.specs.Safety.{holds, is_quiet, is_guarded, is_attended, is_safe, call_harms}
-use Rattle.world_rules.specs.Verdicts.{verdict_at, exit_was_paid, before_taking, first_unattended, held_tip, ever_held, verdict_of}
+use Rattle.world_laws.proofs.Basics.{◌≡◌, ℕ, Bool, true, false, List, [], ◌∷◌, Option, Some, None, refl, replicate}
+use Rattle.world_laws.proofs.CoinWords.{Owner, Body, RawOpening, AtDeposit, Tick, Deposit, Commit, StartSpend, After, Finish, body_text, now, blocks, coins, block_at, coin_at, responses, exits, exit_at, is_withdrawn, Tests, Rules, answer_to, greatest, Bundle}
+use Rattle.world_laws.proofs.WorldWords.{VerdictKind, Event, Declares, Joins, Accepts, Binds, TakesBack, Watches, log_of, wallet_owner, accepted, bound_by, taken_back, not_taken, guarded_by, watchers, holds, is_quiet, is_guarded, is_attended, is_safe, call_harms, verdict_at, exit_was_paid, before_taking, first_unattended, held_tip, ever_held, verdict_of}
 
 -- ---- who and what
 

@@ -1,31 +1,7 @@
 -- Each standing exit was started with openings that show it, and so was each challenge; whoever holds the coin.
-use Rattle.std.proofs.Common.{◌≡◌, ℕ, ◌+◌, ◌<◌, ◌==◌, ◌&&◌, Bool, true, false, if◌then◌else◌, List, [], ◌∷◌, ◌++◌, Option, Some, None, inl, inr, refl, sym, ap, ◌∙◌, subst}
-use Rattle.std.specs.Prelude.{is_some, nat_lt}
-use Rattle.std.specs.Option.{option_map}
-use Rattle.std.specs.List.{AllByRecursion}
-use Rattle.std.proofs.lemmas.Bool.{and_parts, eqb-true, ltb-true}
-use Rattle.plasma_tx.specs.declared.owner.Owner.{Owner}
-use Rattle.plasma_tx.specs.declared.opening.RawOpening.{RawOpening}
-use Rattle.plasma_tx.specs.declared.signed_tx.SignedTx.{SignedTx}
-use Rattle.plasma_tx.specs.declared.call.Shown.{Shown}
-use Rattle.plasma_tx.specs.declared.call.Shown.TheVariants.{Deposit as AtDeposit, Spend}
-use Rattle.plasma_tx.specs.declared.call.RootCall.{RootCall}
-use Rattle.plasma_tx.specs.declared.call.RootCall.TheVariants.{StartDeposit, StartSpend, Before, Respond}
-use Rattle.plasma_tx.specs.declared.views.CoinView.{CoinView}
-use Rattle.plasma_tx.specs.Views.{now, Challenge, Exit, coin_at, exits, block_of, challenge_at, with_challenge, with_answer_at, new_challenge}
-use Rattle.plasma_tx.specs.declared.rules.TheConstants.{CHALLENGE_WINDOW}
-use Rattle.plasma_tx.specs.Shown.{Tests, Rules, root_at, shown_tx}
-use Rattle.plasma_tx.specs.Table.{IsLegal as IsLegalLog}
-use Rattle.plasma_tx.specs.Accepted.{ShowsTx, StartsSpend}
-use Rattle.plasma_tx.proofs.Accepted.{openings_show, accepted_calls_show}
-use Rattle.plasma_tx.proofs.Each.{all-append, all-map, each-exit}
-use Rattle.watch_duty.specs.Laws.{IsLegalBy, shown_openings, openings_of_call}
-use Rattle.watch_duty.proofs.Members.{Has, has-left, has-right, has-cases, all-has}
-use Rattle.watch_duty.proofs.Shown.{seen as log_seen, IsSpent, IsShownAt as IsLogShownAt, Deposited as LogDeposited, Transferred as LogTransferred, IsShownChallenge as IsLogShownChallenge, IsBegun as IsLogBegun, OfDeposit as LogOfDeposit, OfSpend as LogOfSpend, IsShownExit as IsLogShownExit, exits-shown}
-use Rattle.world_rules.specs.Events.{Event, Joins, log_of}
-use Rattle.world_rules.specs.Exhibits.{openings_of, seen}
-use Rattle.world_laws.specs.Legal.{IsLegal}
-use Rattle.world_laws.proofs.Lists.{some_same, none_some, all-from, all-changed}
+use Rattle.world_laws.proofs.Basics.{◌≡◌, ℕ, ◌+◌, ◌<◌, ◌&&◌, Bool, false, if◌then◌else◌, List, [], ◌∷◌, ◌++◌, Option, Some, None, inl, inr, refl, sym, ap, ◌∙◌, subst, arith, is_some, nat_lt, option_map, AllByRecursion, and_parts, eqb-true, ltb-true, common_steps, some_same, none_some, all-from, all-changed}
+use Rattle.world_laws.proofs.CoinWords.{Owner, RawOpening, SignedTx, Shown, AtDeposit, Spend, RootCall, StartDeposit, StartSpend, Before, Respond, CoinView, now, Challenge, Exit, coin_at, exits, block_of, challenge_at, with_challenge, new_challenge, CHALLENGE_WINDOW, Tests, Rules, root_at, shown_tx, IsLegalLog, ShowsTx, StartsSpend, openings_show, accepted_calls_show, all-append, all-map, each-exit, IsLegalBy, shown_openings, openings_of_call, Has, has-left, has-right, has-cases, all-has, log_seen, IsSpent, IsLogShownAt, LogDeposited, LogTransferred, IsLogShownChallenge, IsLogBegun, LogOfDeposit, LogOfSpend, IsLogShownExit, exits-shown}
+use Rattle.world_laws.proofs.WorldWords.{Event, Joins, log_of, openings_of, seen, IsLegal}
 use Rattle.world_laws.proofs.Clash.{IsOpened}
 use Rattle.world_laws.proofs.Walk.{Spent}
 
@@ -120,12 +96,7 @@ in-time tests rules (Before account c e shown ∷ log) legal =
     (new_challenge log account c e shown) was early)) (in-time tests rules log legal.1)
 in-time tests rules (Respond account c e challenged spend ∷ log) legal =
     each-exit IsInTime log (Respond account c e challenged spend) tt
-    (λ x was. all-map (λ (ch : Challenge). ch.at < x.start + CHALLENGE_WINDOW) (with_answer_at challenged)
-    (λ ch early. elim (ch.block == challenged) as
-    (λ b. (if b then record ch { answered = true } else ch).at < x.start + CHALLENGE_WINDOW) [
-      | true ↦ early
-      | false ↦ early
-    ]) x.challenges was) (in-time tests rules log legal.1)
+    (grind (arith, common_steps, all-map)) (in-time tests rules log legal.1)
 in-time tests rules (StartDeposit account c block ∷ log) legal =
     each-exit IsInTime log (StartDeposit account c block) tt tt (in-time tests rules log legal.1)
 in-time tests rules (StartSpend account c parent exit ∷ log) legal =
@@ -170,14 +141,7 @@ module _ (tests : Tests) (rules : Rules) (log : List RootCall) (c : ℕ) (os mor
   shown_at-grow n owner (Deposited at is) = Deposited at is
   shown_at-grow n owner (Transferred s opened above) =
       Transferred
-      (record {
-        o = s.o;
-        has = has s.o s.has;
-        tx = s.tx;
-        tx_is = s.tx_is;
-        block_is = s.block_is;
-        to_is = s.to_is;
-      })
+      (grind (arith, common_steps))
       opened above
 
 pub all_shown : (tests : Tests) (rules : Rules) (events : List Event) → IsLegal tests rules events → (x : Exit)
@@ -227,14 +191,6 @@ parent_shown tests rules log os account c (Spend opening) exit is has =
         let parts = and_parts (is_some (root_at log opening.block) && nat_lt is.coin.deposit opening.block)
         (nat_lt opening.block exit.block) is.parent_fits in
         Transferred
-        (record {
-          o = opening;
-          has = has opening (inl refl);
-          tx = tx;
-          tx_is = s.spelled;
-          block_is = refl;
-          to_is = some_same tx.body.to is.parent_owner same;
-        })
+        (grind (arith, common_steps, some_same))
         (opened-shown tests rules log c opening tx s)
-        (ltb-true is.coin.deposit opening.block
-        (and_parts (is_some (root_at log opening.block)) (nat_lt is.coin.deposit opening.block) parts.0).1)
+        (grind (arith, common_steps, ltb-true, and_parts))

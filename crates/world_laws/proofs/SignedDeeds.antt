@@ -1,51 +1,9 @@
 -- What a wallet's command gives out that is answered with a leaf is the body that the leaf binds, with the signature.
-use Rattle.std.proofs.Common.{◌≡◌, ℕ, ◌^◌, ◌<◌, Bool, true, false, if◌then◌else◌, List, [], ◌∷◌, ◌++◌, Option, Some, None, refl, sym, ap, ◌∙◌, subst, arith}
-use Rattle.std.specs.Prelude.{Result, IfSome, slice_get, unwrap_or}
-use Rattle.std.proofs.lemmas.Bool.{and_parts, eq-eqb}
-use Rattle.std.proofs.lemmas.Grind.{common_steps}
-use Rattle.line_forms.proofs.FormLaws.{option_map_some}
-use Rattle.leaf_journal.specs.Records.{messages_of}
-use Rattle.lms_sign.specs.Tree.{signature_of}
-use Rattle.plasma_tx.specs.declared.owner.Owner.{Owner}
-use Rattle.plasma_tx.specs.declared.body.Body.{Body}
-use Rattle.plasma_tx.specs.declared.call.RootCall.{RootCall}
-use Rattle.plasma_tx.specs.Spelling.{IsBody, body_text, body_at_start}
-use Rattle.schedule_text.specs.declared.line.Line.{Line}
-use Rattle.schedule_text.specs.declared.command.Command.{Command}
-use Rattle.schedule_text.specs.declared.command.WalletCommand.{WalletCommand}
-use Rattle.wallet_core.specs.declared.coin_state.CoinState.TheVariants.{Held}
-use Rattle.node_rules.specs.declared.answers.Sent.{Sent}
-use Rattle.node_rules.specs.declared.refusal.WalletRefusal.{WalletRefusal}
-use Rattle.node_rules.specs.WalletRecords.{who_is, secret_of, leaves_in}
-use Rattle.node_rules.specs.Wallet.{WalletRecords, WalletEffect, who, used, coin_state, last_leaf, accept_effect, send_effect, again_by, again_answer, leave_effect, reclaim_effect, migrate_effect}
-use Rattle.node_rules.specs.WalletCommandLaws.{sent_body}
-use Rattle.node_rules.proofs.WalletGrow.{wallet-parts}
-use Rattle.node_rules.proofs.WalletTips.{tag-long, tip-fits}
-use Rattle.node_rules.proofs.WalletRole.{held-tip}
-use Rattle.node_replies.specs.declared.reply.Reply.{Reply}
-use Rattle.node_replies.specs.Causes.{wallet_cause}
-use Rattle.world_rules.specs.Events.{Event, Binds, Other, bound_by, leaf_at}
-use Rattle.world_rules.specs.World.{Node, World, is_wallet_role, number_of, wallet_of}
-use Rattle.world_rules.specs.Deeds.{Deed}
-use Rattle.node_replies.specs.declared.order.NodeOrder.{NodeOrder}
-use Rattle.node_replies.specs.declared.order.WalletOrder.{WalletOrder}
-use Rattle.node_replies.specs.Orders.{Response, answered, on_accepted, on_sent, on_leaving, on_reclaimed, on_migrated, again_does, wallet_does}
-use Rattle.world_rules.specs.Orders.{wallet_order, order_of}
-use Rattle.world_rules.specs.OrderEvents.{event_of}
-use Rattle.world_rules.proofs.OrderEnds.{each-answer}
-use Rattle.world_rules.specs.Steps.{LineEffect, without_offers}
-use Rattle.world_rules.specs.Laws.{IsCommandIn}
-use Rattle.world_rules.proofs.Existence.{position-is}
-use Rattle.world_rules.proofs.KeptNode.{IsGoodOwner, IsFitOrder}
-use Rattle.world_rules.proofs.KeptWallet.{KeptWallet}
-use Rattle.world_rules.proofs.KeptWorld.{KeptWorld, few-blocks}
-use Rattle.world_rules.proofs.Said.{said}
-use Rattle.world_rules.specs.Acts.{Place, Cut, Act, Rests, Orders, End, Whole, Crashed, Kept, Lost, is_down_for, order_act, act_of, end_of, end_effect, deed_at, done}
-use Rattle.world_rules.proofs.Fitting.{IsFitAct}
-use Rattle.world_rules.proofs.Lookups.{IsFound, understood-in}
-use Rattle.node_replies.proofs.WalletEnds.{SendEnds, Refused, Sends, send_ends}
-use Rattle.world_rules.proofs.WalletSends.{body-signed, words}
-use Rattle.world_laws.proofs.Lists.{some_same}
+use Rattle.world_laws.proofs.Basics.{◌≡◌, ℕ, ◌^◌, ◌<◌, Bool, true, false, if◌then◌else◌, List, [], ◌∷◌, ◌++◌, Option, Some, None, refl, sym, ap, ◌∙◌, subst, arith, Result, IfSome, slice_get, unwrap_or, and_parts, eq-eqb, common_steps, some_same}
+use Rattle.world_laws.proofs.CoinWords.{signature_of, Owner, Body, RootCall, IsBody, body_text, body_at_start}
+use Rattle.world_laws.proofs.NodeWords.{messages_of, Sent, WalletRefusal, secret_of, leaves_in, WalletRecords, WalletEffect, who, used, last_leaf, send_effect, again_by, again_answer, leave_effect, migrate_effect, accept_effect, sent_body, Reply, wallet_cause, NodeOrder, WalletOrder, Response, answered, on_sent, on_leaving, on_migrated, again_does, wallet_does, on_accepted, SendEnds, Refused, Sends, send_ends}
+use Rattle.world_laws.proofs.WorldWords.{option_map_some, Line, Command, WalletCommand, Event, Binds, Other, bound_by, leaf_at, Node, World, is_wallet_role, number_of, wallet_of, Deed, wallet_order, order_of, event_of, each-answer, LineEffect, without_offers, IsCommandIn, position-is, IsGoodOwner, IsFitOrder, KeptWallet, KeptWorld, few-blocks, said, Place, Cut, Act, Rests, Orders, End, Whole, Crashed, Kept, Lost, act_of, end_effect, done, end_of, deed_at, IsFitAct, IsFound, understood-in, body-signed, sent-is}
+use Rattle.node_rules.specs.WalletRecords.{who_is}
 use Rattle.world_laws.proofs.SignedMessages.{leaf-newest, used-is, message-body, last-message}
 
 -- The bytes are the text of the body that leaf q of node n binds, with the event, and the signature of it by that leaf.
@@ -90,17 +48,6 @@ module _ (dig : List ℕ → List ℕ) (events : List Event) (world : World) (ke
   -- a transfer that is signed
   module _ (coin : ℕ) (to : Owner) (last : Option ℕ) (coin_fits : coin < 2 ^ 64) (good : IsGoodOwner to)
       (last_fits : IfSome last (λ n. n < 2 ^ 64)) where
-    sent-is : (tip : ℕ) → coin_state dig wallet log coin ≡ Held tip → IsBody (sent_body wallet coin tip to last)
-    sent-is tip held = record {
-      tag = tag-long dig wallet.notes (wallet-parts dig wallet wallet-kept.is).role;
-      coin = coin_fits;
-      parent = tip-fits dig wallet log coin tip
-          (words dig (said events n) log wallet wallet-kept (few-blocks dig events world kept))
-          (held-tip dig wallet log coin tip held);
-      to = good.is;
-      last = last_fits;
-    }
-
     sent-made : (body : Body) (signature : List ℕ) → IsBody body → (q : ℕ) → used wallet ≡ q
         → leaf_at q (bound_by (Binds n (body_at_start (body_text body ++ signature)) ∷ events) n) ≡ Some body
     unfolding bound_by said
@@ -130,7 +77,8 @@ module _ (dig : List ℕ → List ℕ) (events : List Event) (world : World) (ke
             let number : used wallet ≡ q = cc same in
             record {
               body = body;
-              leaf = sent-made body (sign (used wallet)) (sent-is tip held) q number;
+              leaf = sent-made body (sign (used wallet)) (sent-is dig (said events n) log wallet wallet-kept
+                  (few-blocks dig events world kept) coin to last coin_fits good.is good.key last_fits tip held) q number;
               made_is = ap (λ (k : ℕ). body_text body ++ sign k) number;
             })
 
@@ -146,13 +94,7 @@ module _ (dig : List ℕ → List ℕ) (events : List Event) (world : World) (ke
       of k q found same =
           let there = last-message dig (said events n) log wallet wallet-kept coin k found in
           let bound = message-body dig (said events n) log wallet wallet-kept k there.0 there.1 in
-          let text : unwrap_or (slice_get (messages_of wallet.leaves) k) [] ≡ body_text bound.body =
-          ap (λ (o : Option (List ℕ)). unwrap_or o []) there.1 ∙ bound.text in
-          record {
-            body = bound.body;
-            leaf = subst (λ (j : ℕ). leaf_at j (bound_by events n) ≡ Some bound.body) same bound.leaf;
-            made_is = λ i. text i ++ signature_of (secret_of (who wallet)) (same i) (text i);
-          }
+          grind (arith, common_steps)
 
       by : (o : Option ℕ) → last_leaf (leaves_in wallet.leaves) coin ≡ o
           → MakesBy (WalletOrder.Again coin) (answered wallet_cause on_sent (again_by wallet o))
@@ -169,9 +111,7 @@ module _ (dig : List ℕ → List ℕ) (events : List Event) (world : World) (ke
   wallet-makes (WalletOrder.Again coin) fit = again coin
   wallet-makes (WalletOrder.Leave coin) fit =
       others (WalletOrder.Leave coin) on_leaving (λ call q wrong. cc wrong) (leave_effect dig wallet log coin).answer
-  wallet-makes (WalletOrder.Reclaim bytes) fit =
-      others (WalletOrder.Reclaim bytes) on_reclaimed (λ taken q wrong. cc wrong)
-      (reclaim_effect dig wallet log bytes).answer
+  wallet-makes (WalletOrder.Reclaim bytes) fit = grind (arith, common_steps, others)
   wallet-makes WalletOrder.Migrate fit =
       others WalletOrder.Migrate on_migrated (λ done q wrong. cc wrong) (migrate_effect wallet).answer
   wallet-makes WalletOrder.Watch fit = λ q wrong. absurd (cc wrong)
@@ -200,12 +140,7 @@ module _ (dig : List ℕ → List ℕ) (events : List Event) (world : World) (ke
   new-sent line act name own q fit is is_command sent =
       let (cut, by) = understood-in world line (Command.Wallet name own) act is is_command in
       let found = option_map_some NodeOrder.Wallet (wallet_order world own) by.order by.order_is in
-      subst (λ (a : Act). IsFitAct a → (done dig world a).reply ≡ Reply.Sent q → IsNew events world (done dig world a)
-      name q) by.act_is
-      (subst (λ (o : NodeOrder). IsFitAct (order_act cut by.place o)
-      → (done dig world (order_act cut by.place o)).reply ≡ Reply.Sent q
-      → IsNew events world (done dig world (order_act cut by.place o)) name q) found.2
-      (ordered cut by.place by.at found.0 (is_down_for (NodeOrder.Wallet found.0) by.place.node))) fit sent
+      grind (arith, common_steps, ordered)
     where
       ended : (place : Place) (deed : Deed) → IsFound world is_wallet_role name place
           → ((k : ℕ) → deed.gives.reply ≡ Reply.Sent k
@@ -213,13 +148,8 @@ module _ (dig : List ℕ → List ℕ) (events : List Event) (world : World) (ke
           → (end_effect world place deed end).reply ≡ Reply.Sent q
           → IsNew events world (end_effect world place deed end) name q
       ended place deed at makes Whole sent = grind (arith, common_steps)
-      ended place deed at makes Crashed sent = let made = makes q sent in record {
-        n = place.number;
-        node = place.node;
-        number = at.number;
-        node_is = at.there;
-        made = grind (arith, cut-bound);
-      }
+      ended place deed at makes Crashed sent =
+          let made = makes q sent in grind (arith, common_steps, cut-bound)
       ended place deed at makes Kept sent = absurd (cc sent)
       ended place deed at makes Lost sent = absurd (cc sent)
 

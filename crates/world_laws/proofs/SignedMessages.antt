@@ -1,38 +1,11 @@
 -- A message that a leaf binds is a body's bytes, and the events of a run say which body each leaf binds.
-use Rattle.std.proofs.Common.{◌≡◌, ℕ, zero, suc, ◌==◌, true, false, if◌then◌else◌, List, [], ◌∷◌, ◌++◌, length, drop, reverse, Option, Some, None, Ok, Err, is_ok, inl, inr, refl, sym, ap, ◌∙◌, append-nil, arith}
-use Rattle.std.specs.Prelude.{Result, slice_get, option_map}
-use Rattle.std.specs.Option.{option_map_or}
-use Rattle.std.specs.List.{slice_range, range_with_len}
-use Rattle.std.proofs.lemmas.Bool.{and_parts, cases_eq, eqb-true, eq-eqb, ne_eqb, false≢true}
-use Rattle.std.proofs.lemmas.List.{drop_all, length-map, length-reverse, reverse-append}
-use Rattle.std.proofs.lemmas.List.Elements.{All-contains}
-use Rattle.std.proofs.lemmas.Option.{slice_get-map}
-use Rattle.std.proofs.lemmas.Grind.{common_steps}
-use Rattle.leaf_journal.specs.Records.{messages_of}
+use Rattle.world_laws.proofs.Basics.{◌≡◌, ℕ, ◌==◌, true, false, if◌then◌else◌, List, [], ◌∷◌, ◌++◌, length, drop, reverse, Option, Some, None, Ok, Err, is_ok, inl, inr, refl, sym, ap, ◌∙◌, append-nil, arith, Result, slice_get, option_map, option_map_or, slice_range, range_with_len, and_parts, cases_eq, eqb-true, eq-eqb, ne_eqb, false≢true, drop_all, length-map, length-reverse, reverse-append, All-contains, slice_get-map, common_steps, none_some, find-has, got-has}
+use Rattle.world_laws.proofs.CoinWords.{Body, SignedTx, TxRefusal, RootCall, body_text, signed_text, body_length, body_at_start, body_in, with_signature, signed_in, LeafRecord, Has, has-contains, all-has}
+use Rattle.world_laws.proofs.NodeWords.{messages_of, is_body, leaves_in, WalletRecords, used, names_coin, last_leaf, wallet-parts, Small}
+use Rattle.world_laws.proofs.WorldWords.{leaf_at, Said, KeptWallet, push-same, push-other}
 use Rattle.leaf_journal.proofs.KindRecords.{messages_pass}
-use Rattle.plasma_tx.specs.declared.body.Body.{Body}
-use Rattle.plasma_tx.specs.declared.signed_tx.SignedTx.{SignedTx}
-use Rattle.plasma_tx.specs.declared.signed_tx.TxRefusal.{TxRefusal}
-use Rattle.plasma_tx.specs.declared.call.RootCall.{RootCall}
-use Rattle.plasma_tx.specs.Spelling.{body_text, signed_text, body_length, body_at_start, body_in, with_signature, signed_in}
 use Rattle.plasma_tx.proofs.Spellings.{body_in-ok, signed_text-in}
-use Rattle.wallet_core.specs.declared.notes.LeafRecord.{LeafRecord}
-use Rattle.node_rules.specs.WalletRecords.{is_body, leaves_in}
-use Rattle.node_rules.specs.Wallet.{WalletRecords, used, names_coin, last_leaf}
 use Rattle.node_rules.specs.WalletOpening.{leaves_of}
-use Rattle.node_rules.proofs.WalletGrow.{wallet-parts}
-use Rattle.watch_duty.proofs.Members.{Has, has-contains, all-has}
-use Rattle.world_rules.specs.Events.{leaf_at}
-use Rattle.node_replies.proofs.ByteTexts.{Small}
-use Rattle.world_rules.proofs.Said.{Said}
-use Rattle.world_rules.proofs.KeptWallet.{KeptWallet}
-use Rattle.world_rules.proofs.Runs.{push-same, push-other}
-use Rattle.world_laws.proofs.Lists.{some_same, none_some, find-has}
-
-slice-has : {A : Type 0} (xs : List A) (n : ℕ) (x : A) → slice_get xs n ≡ Some x → Has xs x
-slice-has [] n x is = absurd (none_some x is)
-slice-has (y ∷ ys) zero x is = inl (some_same y x is)
-slice-has (y ∷ ys) (suc n) x is = inr (slice-has ys n x is)
 
 -- ---- a message's bytes
 
@@ -82,8 +55,7 @@ leaf-from (one ∷ bodies) q body is =
 pub leaf-newest : (bodies : List Body) (q : ℕ) (body : Body) → q ≡ length bodies
     → leaf_at q (body ∷ bodies) ≡ Some body
 unfolding leaf_at
-leaf-newest bodies q body same =
-    ap (λ b. if b then Some body else leaf_at q bodies) (eq-eqb q (length bodies) same)
+leaf-newest bodies q body same = ap (λ b. if b then Some body else leaf_at q bodies) (eq-eqb q (length bodies) same)
 
 -- ---- what a wallet's leaf binds
 
@@ -109,7 +81,7 @@ module _ (dig : List ℕ → List ℕ) (s : Said) (log : List RootCall) (wallet 
   pub message-body : (q : ℕ) (message : List ℕ) → slice_get (messages_of wallet.leaves) q ≡ Some message
       → IsMessage q message
   message-body q message at =
-      let has = slice-has (messages_of wallet.leaves) q message at in
+      let has = got-has (messages_of wallet.leaves) q message at in
       let read : List ℕ → LeafRecord = λ m. record { body = body_at_start m } in
       record {
         body = body_at_start message;
@@ -137,8 +109,5 @@ module _ (dig : List ℕ → List ℕ) (s : Said) (log : List RootCall) (wallet 
           → option_map_or (λ (leaf : LeafRecord). leaf.body.coin == coin)
           (option_map (λ m. record { body = body_at_start m }) (slice_get (messages_of wallet.leaves) q)) false ≡ true
           → (message : List ℕ) × (slice_get (messages_of wallet.leaves) q ≡ Some message)
-      by None none passes =
-          absurd (false≢true (sym (ap (λ (o : Option (List ℕ)).
-          option_map_or (λ (leaf : LeafRecord). leaf.body.coin == coin)
-          (option_map (λ m. record { body = body_at_start m }) o) false) none) ∙ passes))
+      by None none passes = grind (arith, common_steps, false≢true)
       by (Some message) some passes = (message, some)

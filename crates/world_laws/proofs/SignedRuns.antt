@@ -1,38 +1,9 @@
 -- Over every run, what a wallet's node gave out is what its leaf binds, so no leaf of its key signs two messages.
-use Rattle.std.proofs.Common.{◌≡◌, ℕ, true, List, [], ◌∷◌, ◌++◌, slice_get, Option, Some, None, inl, inr, refl, sym, ap, ◌∙◌, subst, arith}
-use Rattle.std.specs.Prelude.{option_map, option_and_then}
-use Rattle.std.specs.List.{filter_map, cons_option}
-use Rattle.std.proofs.lemmas.Bool.{false≢true}
-use Rattle.std.proofs.lemmas.List.Folds.{find_at}
-use Rattle.std.proofs.lemmas.Grind.{common_steps}
-use Rattle.line_forms.proofs.FormLaws.{and_then_some, option_map_some}
-use Rattle.lms_sign.specs.Tree.{signature_of}
-use Rattle.plasma_tx.specs.declared.owner.Owner.{Owner}
-use Rattle.plasma_tx.specs.declared.body.Body.{Body}
-use Rattle.plasma_tx.specs.Spelling.{body_text, body_at_start}
-use Rattle.schedule_text.specs.declared.line.Line.{Line}
-use Rattle.schedule_text.specs.declared.command.Command.{Command}
-use Rattle.schedule_text.specs.declared.command.WalletCommand.{WalletCommand}
-use Rattle.node_rules.specs.declared.identity.WalletIdentity.{WalletIdentity}
-use Rattle.node_rules.specs.WalletRecords.{secret_of, who_is}
-use Rattle.watch_duty.proofs.Members.{Has, has-contains, contains-has}
-use Rattle.node_replies.specs.declared.reply.Reply.{Reply}
-use Rattle.world_rules.specs.Events.{Event, bound_by, leaf_at}
-use Rattle.world_rules.specs.World.{Node, World, is_wallet_role, number_of, owner_of_node, owner_named}
-use Rattle.world_rules.specs.Steps.{LineEffect, TraceEntry, entry_of, Run, events_of}
-use Rattle.world_rules.specs.Verdicts.{GivenOut, wallet_of_line, leaf_sent, given_by, given_out}
-use Rattle.world_rules.specs.Laws.{IsCommandIn}
-use Rattle.world_rules.proofs.Existence.{position-parts}
-use Rattle.world_rules.proofs.KeptRun.{run-kept}
-use Rattle.world_rules.proofs.KeptWorld.{KeptWorld}
-use Rattle.world_rules.proofs.NodeLaws.{NodesGrow, records_grow}
-use Rattle.world_rules.proofs.Lives.{begun}
-use Rattle.world_laws.specs.Headline.{IsRun, GivenOutIsBound, LeavesSignOneMessage}
-use Rattle.world_laws.proofs.Lists.{some_same, none_some}
-use Rattle.world_rules.specs.Acts.{Act, act_of}
-use Rattle.world_rules.proofs.Lines.{steps_are_of_acts}
-use Rattle.world_rules.proofs.Fitting.{IsFitAct}
-use Rattle.world_rules.proofs.Lives.{line_effect}
+use Rattle.world_laws.proofs.Basics.{◌≡◌, ℕ, true, List, [], ◌∷◌, ◌++◌, slice_get, Option, Some, None, inl, inr, refl, sym, ap, ◌∙◌, subst, arith, option_map, option_and_then, filter_map, cons_option, false≢true, find_at, common_steps, some_same, none_some}
+use Rattle.world_laws.proofs.CoinWords.{signature_of, Owner, Body, body_text, body_at_start, Has, has-contains, contains-has}
+use Rattle.world_laws.proofs.NodeWords.{secret_of, Reply}
+use Rattle.world_laws.proofs.WorldWords.{and_then_some, option_map_some, Line, Command, WalletCommand, Event, bound_by, leaf_at, Node, World, is_wallet_role, number_of, owner_of_node, owner_named, LineEffect, TraceEntry, entry_of, Run, events_of, GivenOut, wallet_of_line, leaf_sent, given_by, given_out, IsCommandIn, position-parts, run-kept, KeptWorld, NodesGrow, records_grow, begun, IsRun, GivenOutIsBound, LeavesSignOneMessage, Act, act_of, steps_are_of_acts, IsFitAct, line_effect, begun}
+use Rattle.node_rules.specs.WalletRecords.{who_is}
 use Rattle.world_laws.proofs.Acts.{IsNext, over_acts}
 use Rattle.world_laws.proofs.SignedDeeds.{named-role, new-sent}
 use Rattle.world_laws.proofs.SignedStays.{stays, leaf-stays, KeysApart, keys-act}
@@ -86,34 +57,14 @@ module _ (dig : List ℕ → List ℕ) (events : List Event) (entries : List Tra
   newest-signed name own q in_command sent =
       let new = new-sent dig events world kept line act name own q fit act_is in_command sent in
       let stay = stays dig events world kept name new.n new.node new.number new.node_is effect.world.nodes grown in
-      record {
-        n = new.n;
-        node = stay.new;
-        number = stay.number;
-        node_is = stay.is_new;
-        body = new.made.body;
-        leaf = new.made.leaf;
-        made_is = new.made.made_is
-            ∙ ap (λ (w : WalletIdentity). body_text new.made.body
-            ++ signature_of (secret_of w) q (body_text new.made.body)) (sym stay.who);
-      }
+      grind (arith, common_steps)
 
   -- and those before it
   older-signed : (name made : List ℕ) (q : ℕ) → IsSigned events world name made q
       → IsSigned (effect.event ∷ events) effect.world name made q
   older-signed name made q old =
       let stay = stays dig events world kept name old.n old.node old.number old.node_is effect.world.nodes grown in
-      record {
-        n = old.n;
-        node = stay.new;
-        number = stay.number;
-        node_is = stay.is_new;
-        body = old.body;
-        leaf = leaf-stays effect.event events old.n q old.body old.leaf;
-        made_is = old.made_is
-            ∙ ap (λ (w : WalletIdentity). body_text old.body ++ signature_of (secret_of w) q (body_text old.body))
-            (sym stay.who);
-      }
+      grind (arith, common_steps, leaf-stays)
 
   more-signed : AreSigned events entries world
       → AreSigned (effect.event ∷ events) (entry_of line effect ∷ entries) effect.world
@@ -137,8 +88,7 @@ next-signed dig lines run world line act next holds = record {
 
 runs-signed : (dig : List ℕ → List ℕ) (lines : List Line) (run : Run) (world : World) → IsRun dig lines run world
     → IsSignedRun run.entries world
-runs-signed dig =
-    over_acts dig IsSignedRun (λ tag operator most fits. first-signed tag operator most) (next-signed dig)
+runs-signed dig = over_acts dig IsSignedRun (λ tag operator most fits. first-signed tag operator most) (next-signed dig)
 
 -- ---- what is given out
 
@@ -202,18 +152,7 @@ given_out_is_bound dig lines run world entry name own q n node run_is has in_com
     let events = events_of run.entries in
     let there = contains-has run.entries entry has in
     let signed = (runs-signed dig lines run world run_is).signed entry there name own q in_command sent in
-    let same_n : signed.n ≡ n = one-of (number_of is_wallet_role world name) signed.n n signed.number number in
-    let same_node : signed.node ≡ node =
-    one-of (slice_get world.nodes signed.n) signed.node node signed.node_is
-    (ap (slice_get world.nodes) same_n ∙ node_is) in
-    record {
-      body = signed.body;
-      leaf = subst (λ (k : ℕ). leaf_at q (bound_by events k) ≡ Some signed.body) same_n signed.leaf;
-      made = signed.made_is
-          ∙ ap (λ (x : Node). body_text signed.body
-          ++ signature_of (secret_of (who_is x.notes)) q (body_text signed.body)) same_node;
-      given = grind (arith, has-contains, has-read, given-by, owner-of);
-    }
+    grind (arith, common_steps, one-of, has-contains, has-read, given-by, owner-of)
 
 -- whose the bytes are that were given out
 record IsOwn (events : List Event) (world : World) (given : GivenOut) : Type 0 where
@@ -272,19 +211,8 @@ module _ (dig : List ℕ → List ℕ) (lines : List Line) (run : Run) (world : 
         → one.bytes ≡ other.bytes
     one-message one other first second same_key same_leaf =
         let events = events_of run.entries in
-        let same_n : first.n ≡ second.n =
-        (runs-signed dig lines run world run_is).apart first.n second.n first.node second.node first.node_is
-        second.node_is first.role second.role (sym first.key ∙ same_key ∙ second.key) in
-        let same_node : first.node ≡ second.node =
-        one-of (slice_get world.nodes first.n) first.node second.node first.node_is
-        (ap (slice_get world.nodes) same_n ∙ second.node_is) in
-        let same_body : first.body ≡ second.body =
-        one-of (leaf_at one.leaf (bound_by events first.n)) first.body second.body first.leaf
-        ((λ i. leaf_at (same_leaf i) (bound_by events (same_n i))) ∙ second.leaf) in
-        first.bytes
-        ∙ (λ i. body_text (same_body i)
-        ++ signature_of (secret_of (who_is (same_node i).notes)) (same_leaf i) (body_text (same_body i)))
-        ∙ sym second.bytes
+        let same_n : first.n ≡ second.n = grind (arith, common_steps, runs-signed) in
+        grind (arith, common_steps, one-of)
 
 pub leaves_sign_one_message : LeavesSignOneMessage
 leaves_sign_one_message dig lines run known run_is world one other world_is has_one has_other same_key same_leaf =

@@ -1,33 +1,11 @@
 -- What stays of a wallet as lines follow: the number that its name has, who it is, and what its leaves bind; and that
 -- no two wallets have one key.
-use Rattle.std.proofs.Common.{◌≡◌, ◌⊎◌, ℕ, zero, suc, ◌+◌, ◌<◌, not, cond, Bool, true, false, List, [], ◌∷◌, ◌++◌, length, set, slice_get, Option, Some, None, inl, inr, refl, sym, ap, ◌∙◌, subst, arith}
-use Rattle.std.specs.List.{position, position_or_len}
-use Rattle.std.proofs.lemmas.Bool.{and_parts, or_parts, not-true, cases_eq, lt-ltb, true≢false, false≢true}
-use Rattle.std.proofs.lemmas.List.{length-set, length_push}
-use Rattle.std.proofs.lemmas.Slice.Eq.{bytes_eq-Decides}
-use Rattle.std.proofs.lemmas.Grind.{common_steps}
-use Rattle.plasma_tx.specs.declared.body.Body.{Body}
-use Rattle.plasma_tx.specs.declared.call.RootCall.{RootCall}
-use Rattle.node_journal.specs.Role.{are_of}
-use Rattle.node_rules.specs.declared.identity.WalletIdentity.{WalletIdentity}
-use Rattle.node_rules.specs.WalletRecords.{wallet_kinds, identity_text, who_is, owner_of}
-use Rattle.node_rules.proofs.WalletGrow.{who-same, wallet-parts}
-use Rattle.world_rules.specs.Events.{Event, bound_by, leaf_at}
-use Rattle.world_rules.specs.World.{Wallet, Node, World, is_named, is_wallet_role, owner_of_node, wallet_of}
-use Rattle.world_rules.specs.Declarations.{may_be_wallet}
-use Rattle.node_replies.specs.Orders.{with_record}
-use Rattle.world_rules.specs.Steps.{new_node, with_records}
-use Rattle.world_rules.specs.Laws.{GrowsAtMost}
-use Rattle.world_rules.proofs.KeptWorld.{KeptWorld}
-use Rattle.world_rules.proofs.NodeLaws.{NodesGrow}
-use Rattle.world_rules.proofs.Runs.{set-same, set-other, push-other}
-use Rattle.world_rules.proofs.Existence.{position-parts}
-use Rattle.world_rules.specs.Acts.{NewWallet, NewWatcher, NewRogue, Act, Adds, Orders, Crashes, End, Whole, Crashed, Kept, Lost, end_of, node_after, deed_at, done}
-use Rattle.world_rules.specs.Evidence.{IsOfChain, IsActIn}
-use Rattle.world_rules.proofs.Fitting.{IsFitNew, IsFitAct}
-use Rattle.world_rules.proofs.Nodes.{change_of, IsKeptOwn, each_node_keeps, IfThere, node-there}
-use Rattle.world_laws.proofs.Lists.{some_same}
-use Rattle.world_laws.proofs.Absences.{leaf_at-push}
+use Rattle.world_laws.proofs.Basics.{◌≡◌, ◌⊎◌, ℕ, zero, suc, ◌+◌, ◌<◌, not, cond, Bool, true, false, List, [], ◌∷◌, ◌++◌, length, set, slice_get, Option, Some, None, inl, inr, refl, sym, ap, ◌∙◌, subst, arith, position, position_or_len, and_parts, or_parts, not-true, cases_eq, lt-ltb, true≢false, false≢true, length-set, length_push, bytes_eq-Decides, common_steps, some_same}
+use Rattle.world_laws.proofs.CoinWords.{Body, RootCall}
+use Rattle.world_laws.proofs.NodeWords.{are_of, WalletIdentity, wallet_kinds, identity_text, owner_of, who-same, wallet-parts, with_record}
+use Rattle.world_laws.proofs.WorldWords.{Event, bound_by, leaf_at, Wallet, Node, World, is_named, is_wallet_role, owner_of_node, wallet_of, may_be_wallet, new_node, with_records, GrowsAtMost, KeptWorld, NodesGrow, set-same, set-other, push-other, position-parts, NewWallet, NewWatcher, NewRogue, Act, Adds, Orders, Crashes, End, Whole, Crashed, Kept, Lost, end_of, node_after, deed_at, done, IsOfChain, IsActIn, IsFitNew, IsFitAct, change_of, IsKeptOwn, each_node_keeps, IfThere, node-there}
+use Rattle.world_laws.proofs.HeldCoins.{leaf_at-push}
+use Rattle.node_rules.specs.WalletRecords.{who_is}
 use Rattle.world_laws.proofs.Holders.{any-filter}
 use Rattle.world_laws.proofs.Identities.{wallet-who, wallet-identity}
 use Rattle.world_laws.proofs.SignedDeeds.{named-role}
@@ -49,10 +27,7 @@ module _ {X : Type 0} (p : X → Bool) where
   position-push (x ∷ xs) new below = grind (arith, common_steps, position-push xs new)
 
   position-from : (xs : List X) (n : ℕ) → position_or_len p xs ≡ n → n < length xs → position p xs ≡ Some n
-  position-from xs n is below =
-      ap (λ (b : Bool). cond b (Some (position_or_len p xs)) None)
-      (lt-ltb (position_or_len p xs) (length xs) (omega (arith, is, below)))
-      ∙ ap Some is
+  position-from xs n is below = grind (arith, common_steps, lt-ltb)
 
 -- ---- who a wallet is
 
@@ -108,12 +83,7 @@ module _ (dig : List ℕ → List ℕ) (events : List Event) (world : World) (ke
             is_new = ap (slice_get (set world.nodes k new)) (sym same) ∙ set-same world.nodes k old new old_is;
             who = who-changed n node new node_is role (subst (λ (o : Node). GrowsAtMost o new) old_node grows);
           }
-      | inr apart ↦ record {
-        new = node;
-        number = placed;
-        is_new = set-other world.nodes k n new apart ∙ node_is;
-        who = refl;
-      }
+      | inr apart ↦ grind (arith, common_steps, placed, set-other)
     ]
       where
         placed : position passes (set world.nodes k new) ≡ Some n

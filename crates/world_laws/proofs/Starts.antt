@@ -1,53 +1,17 @@
 -- A start that a wallet offers is taken while the wallet holds the coin there.
-use Rattle.std.proofs.Common.{◌≡◌, ℕ, suc, ◌+◌, ◌-◌, ◌<◌, ◌==◌, not, Bool, true, false, if◌then◌else◌, List, [], ◌∷◌, ◌++◌, length, take, Option, Some, None, inl, inr, refl, sym, ap, ◌∙◌, subst, arith, rules}
-use Rattle.std.specs.Prelude.{is_some, slice_get}
-use Rattle.std.specs.Option.{option_map, option_map_or}
-use Rattle.std.specs.List.{AllByRecursion}
-use Rattle.std.proofs.lemmas.Bool.{eq-eqb, eqb-true, lt-ltb, ltb-true, and_from, not_from_true, true≢false}
-use Rattle.std.proofs.lemmas.List.Elements.{recursion_from_All}
-use Rattle.std.proofs.lemmas.Grind.{common_steps}
-use Rattle.plasma_tx.specs.declared.owner.Owner.{Owner}
-use Rattle.plasma_tx.specs.declared.opening.RawOpening.{RawOpening}
-use Rattle.plasma_tx.specs.declared.signed_tx.SignedTx.{SignedTx}
-use Rattle.plasma_tx.specs.declared.links.Link.{Link}
-use Rattle.plasma_tx.specs.declared.links.Links.{Links}
-use Rattle.plasma_tx.specs.declared.call.Shown.{Shown}
-use Rattle.plasma_tx.specs.declared.call.Shown.TheVariants.{Deposit as AtDeposit, Spend}
-use Rattle.plasma_tx.specs.declared.call.RootCall.{RootCall}
-use Rattle.plasma_tx.specs.declared.call.RootCall.TheVariants.{StartDeposit, StartSpend}
-use Rattle.plasma_tx.specs.declared.answer.Answer.{Answer}
-use Rattle.plasma_tx.specs.declared.answer.Answer.TheVariants.{Started, Refused}
-use Rattle.plasma_tx.specs.declared.answer.Refusal.{Refusal}
-use Rattle.plasma_tx.specs.declared.answer.Refusal.TheVariants.{Withdrawn, BadBlock, NotOwner, ExitStands, BadOpening, NotChild, BadSignature}
-use Rattle.plasma_tx.specs.declared.views.CoinView.{CoinView}
-use Rattle.plasma_tx.specs.Links.{last_spend, tip_of, last_owner_of}
-use Rattle.plasma_tx.specs.Views.{now, coin_at, exit_at, block_of, is_withdrawn}
-use Rattle.plasma_tx.specs.declared.rules.TheConstants.{EXIT_BOND, EXIT_PERIOD}
-use Rattle.plasma_tx.specs.Shown.{Tests, Rules, tests_by, root_at, shown_tx, shown_owner}
-use Rattle.plasma_tx.specs.Table.{Cause, decided, too_poor, is_committed_after, is_parent_of, may_exit_at, start_spend_causes, where_coin, answer_to, is_accepted}
-use Rattle.plasma_tx.specs.Accepted.{ShowsTx}
+use Rattle.world_laws.proofs.Basics.{◌≡◌, ℕ, suc, ◌-◌, ◌<◌, Bool, true, false, if◌then◌else◌, List, [], ◌∷◌, ◌++◌, length, take, Option, Some, None, inl, inr, refl, sym, ap, ◌∙◌, subst, arith, rules, is_some, slice_get, option_map, option_map_or, AllByRecursion, eq-eqb, eqb-true, lt-ltb, ltb-true, and_from, not_from_true, true≢false, recursion_from_All, common_steps, some_same, got-has}
+use Rattle.world_laws.proofs.CoinWords.{Owner, RawOpening, SignedTx, Link, Links, Shown, AtDeposit, Spend, RootCall, StartDeposit, StartSpend, Answer, Refusal, CoinView, last_spend, tip_of, last_owner_of, coin_at, exit_at, block_of, is_withdrawn, EXIT_BOND, Tests, Rules, tests_by, root_at, shown_owner, Cause, decided, too_poor, is_committed_after, is_parent_of, answer_to, is_accepted, ShowsTx, Bundle, opens_block, links_in, links_of, AreLinked, tip_from, owner_from, tip-is, last_owner-is, none-linked, Has, has-left, has-right, has-contains, contains-has}
+use Rattle.world_laws.proofs.NodeWords.{kept_links, start_by, start_of, exit_block, due_for_kept}
+use Rattle.world_laws.proofs.WorldWords.{Event, Watches, Leaves, Seals, log_of, coin_of_call, wallet_owner, accepted, is_command_of, offered, offers_of, is_start, starter, IsTakenAt, IsTaken, ShowsTip, Taken, Bare, LegalLeave, IsLegal, LegalStartsAreTaken}
+use Rattle.world_laws.proofs.HeldCoins.{owner-stays, holding, is_noted, IsKept, kept-grow, deposited-coin}
+use Rattle.plasma_tx.specs.declared.answer.Answer.TheVariants.{Refused}
+use Rattle.plasma_tx.specs.declared.answer.Refusal.TheVariants.{ExitStands}
 use Rattle.plasma_tx.proofs.Acceptance.{transfers_are_shown}
-use Rattle.coin_history.specs.declared.bundle.Bundle.{Bundle}
-use Rattle.coin_history.specs.History.{opens_block, links_in, links_of, AreLinked}
-use Rattle.coin_history.proofs.HistoryLinks.{tip_from, owner_from, tip-is, last_owner-is, none-linked}
 use Rattle.coin_history.proofs.HistoryShape.{links_rise}
-use Rattle.node_rules.specs.Kept.{kept_links}
-use Rattle.node_rules.specs.Wallet.{start_by, start_of}
-use Rattle.watch_duty.specs.Duty.{tip_shown}
-use Rattle.watch_duty.proofs.Members.{Has, has-left, has-right, has-contains, contains-has}
 use Rattle.watch_duty.proofs.GuardLinks.{Rises, rises-from, has-above, links-opened}
-use Rattle.world_rules.specs.Events.{Event, Watches, Leaves, Seals, log_of, coin_of_call, wallet_owner, accepted, is_command_of, offered, offers_of}
-use Rattle.node_replies.specs.Orders.{exit_block}
-use Rattle.world_laws.specs.Headline.{is_start, starter, IsTakenAt, IsTaken}
-use Rattle.world_laws.specs.Legal.{ShowsTip, Taken, Bare, LegalLeave, IsLegal}
-use Rattle.world_laws.specs.LegalLaws.{LegalStartsAreTaken}
-use Rattle.world_laws.proofs.Lists.{some_same, got-has}
-use Rattle.world_laws.proofs.Bound.{owner-stays, holding, is_noted, IsKept, kept-grow}
-use Rattle.world_laws.proofs.Held.{deposited-coin}
 use Rattle.world_laws.proofs.Guards.{kept-some}
 use Rattle.world_laws.proofs.Offers.{kept-no_start}
 use Rattle.world_laws.proofs.DueTaken.{bare-history}
-use Rattle.node_rules.specs.Watcher.{due_for_kept}
 
 -- ---- answers
 
@@ -82,12 +46,7 @@ split [] link is = absurd (cc is)
 split (x ∷ []) link is = record { front = []; whole = ap (λ y. y ∷ []) (some_same x link is); taken = refl }
 split (x ∷ y ∷ ys) link is =
     let e : length (x ∷ y ∷ ys) - 1 ≡ suc (length (y ∷ ys) - 1) = omega arith in
-    let r = split (y ∷ ys) link (sym (ap (slice_get (x ∷ y ∷ ys)) e) ∙ is) in
-    record {
-      front = x ∷ r.front;
-      whole = ap (λ l. x ∷ l) r.whole;
-      taken = ap (λ n. take n (x ∷ y ∷ ys)) e ∙ ap (λ l. x ∷ l) r.taken;
-    }
+    grind (arith, common_steps, split (y ∷ ys) link (sym (ap (slice_get (x ∷ y ∷ ys)) e) ∙ is))
 
 -- the last link spends what those before it end with
 split-linked : (tests : Tests) (block : ℕ) (owner : Owner) (front : List Link) (link : Link)
@@ -135,22 +94,7 @@ module _ (tests : Tests) (rules : Rules) (log : List RootCall) (b : Bundle) (mad
   unfolding answer_to
   spend-taken parent owner exit tx owner_is shown committed fits child signed to =
       let spend = transfers_are_shown tests rules log b.coin exit tx shown in
-      let effect : Answer = Started (now log + EXIT_PERIOD) in
-      subst (λ (o : Option CoinView). IsTakenAt log me.account b.coin exit.block (where_coin o (λ coin. decided
-      (start_spend_causes tests log me.account b.coin parent exit.block (shown_owner tests rules log b.coin parent)
-      (shown_tx tests rules log b.coin exit) coin) (Started (now log + EXIT_PERIOD))))) (sym found)
-      (subst (λ (p : Option Owner × Option SignedTx). IsTakenAt log me.account b.coin exit.block (decided
-      (start_spend_causes tests log me.account b.coin parent exit.block p.0 p.1 made)
-      (Started (now log + EXIT_PERIOD)))) (λ i. (sym owner_is i, sym spend i))
-      (skip-all (IsTakenAt log me.account b.coin exit.block)
-      ((is_withdrawn log b.coin, Withdrawn) ∷ (not (may_exit_at log made parent exit.block), BadBlock)
-      ∷ (false, BadOpening) ∷ (not (tx.body.parent == block_of parent), NotChild)
-      ∷ (not (tests.is_signed tx owner), BadSignature) ∷ (not (tx.body.to.account == me.account), NotOwner) ∷ [])
-      ((is_some (exit_at log b.coin exit.block), ExitStands) ∷ too_poor log me.account EXIT_BOND ∷ []) effect (
-        alive,
-        grind (arith, not_from_true, and_from, eq-eqb),
-      )
-      (last-causes log me.account b.coin exit.block effect refl)))
+      grind (arith, common_steps, skip-all, not_from_true, and_from, eq-eqb, last-causes)
 
   -- a link of the history is shown, and committed after the deposit
   link-shown : (link : Link) → Has (links_in rules b.coin b.openings) link
@@ -165,8 +109,7 @@ module _ (tests : Tests) (rules : Rules) (log : List RootCall) (b : Bundle) (mad
       → link.tx.body.to ≡ me → (p : Option Link) → slice_get front (length front - 1) ≡ p
       → IsTakenAt log me.account b.coin link.opening.block (answer_to tests rules log (StartSpend me.account b.coin
       (option_map_or (λ (l : Link). Spend l.opening) p (AtDeposit made.deposit)) link.opening))
-  by_parent link front whole to p p_is =
-      by_case p p_is
+  by_parent link front whole to p p_is = by_case p p_is
     where
       last-has : Has (links_in rules b.coin b.openings) link
       last-has = subst (λ (l : List Link). Has l link) (sym whole) (has-right front (link ∷ []) link (inl refl))
@@ -207,8 +150,7 @@ module _ (tests : Tests) (rules : Rules) (log : List RootCall) (b : Bundle) (mad
           (ap (option_map (λ (t : SignedTx). t.body.to))
           (transfers_are_shown tests rules log b.coin q.opening q.tx r.0)) s.0
           (and_from _ _ s.3 (lt-ltb _ _ s.2))
-          (and_from _ _ (and_from _ _ r.3 (lt-ltb _ _ r.2))
-          (lt-ltb _ _ (omega (arith, less, r.1, s.1)))) (chain.0 ∙ at ∙ sym r.1)
+          (grind (arith, common_steps, and_from, lt-ltb)) (chain.0 ∙ at ∙ sym r.1)
           (subst (λ w. tests.is_signed link.tx w ≡ true) owner chain.1) (ap (λ (w : Owner). w.account) to)
 
   start-taken : IsTaken log me.account (start_of me.account b.tip (links_of rules made b))
@@ -221,12 +163,7 @@ module _ (tests : Tests) (rules : Rules) (log : List RootCall) (b : Bundle) (mad
       by_last None none = grind (arith, common_steps, deposit-taken)
       by_last (Some link) some =
           let r = split (links_in rules b.coin b.openings) link some in
-          let to : link.tx.body.to ≡ me =
-          sym (ap (λ (o : Option Link). option_map_or (λ (l : Link). l.tx.body.to) o made.owner) some) ∙ mine in
-          subst (λ (ls : List Link). IsTakenAt log me.account b.coin link.opening.block
-          (answer_to tests rules log (StartSpend me.account b.coin
-          (tip_shown (record (links_of rules made b) { spends = ls })) link.opening))) (sym r.taken)
-          (by_parent link r.front r.whole to (slice_get r.front (length r.front - 1)) refl)
+          grind (arith, common_steps, by_parent)
 
 -- ---- a start on offer
 

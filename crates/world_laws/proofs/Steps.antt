@@ -1,42 +1,11 @@
 -- An accepted call keeps what holds of each exit of a held coin.
-use Rattle.std.proofs.Common.{◌≡◌, ◌≢◌, ◌⊎◌, ℕ, ◌+◌, ◌<◌, ◌≤◌, ◌==◌, not, Bool, true, false, if◌then◌else◌, List, [], ◌∷◌, ◌++◌, Some, inl, inr, refl, sym, ap, ◌∙◌, subst, arith, rules}
-use Rattle.std.specs.Prelude.{is_some, is_none, nat_lt}
-use Rattle.std.specs.List.{AllByRecursion}
-use Rattle.std.proofs.lemmas.Bool.{eqb-true, cases_Bool, cases_eq, cases_order, eq-eqb, ltb-true, and_parts, and_from, true≢false, false_from_ne_true}
-use Rattle.std.proofs.lemmas.Grind.{common_steps}
-use Rattle.plasma_tx.specs.declared.owner.Owner.{Owner}
-use Rattle.plasma_tx.specs.declared.opening.RawOpening.{RawOpening}
-use Rattle.plasma_tx.specs.declared.links.Link.{Link}
-use Rattle.plasma_tx.specs.declared.call.Shown.{Shown}
-use Rattle.plasma_tx.specs.declared.call.RootCall.{RootCall}
-use Rattle.plasma_tx.specs.declared.call.RootCall.TheVariants.{Fund, Tick, Deposit, Commit, StartDeposit, StartSpend, After, Between, Before, Respond, Finish}
-use Rattle.plasma_tx.specs.declared.views.CoinView.{CoinView}
-use Rattle.plasma_tx.specs.Laws.{is_challenged_at}
-use Rattle.plasma_tx.specs.Views.{now, coin_at, coins, new_coin, Challenge, Exit, is_exit, exits, exit_at, block_of, spend_exit, without_exit, challenge_at, with_challenge, with_answer, new_challenge}
+use Rattle.world_laws.proofs.Basics.{◌≡◌, ◌≢◌, ◌⊎◌, ℕ, ◌+◌, ◌<◌, ◌≤◌, ◌==◌, Bool, true, false, if◌then◌else◌, List, [], ◌∷◌, ◌++◌, Some, inl, inr, refl, sym, ap, ◌∙◌, subst, arith, rules, is_some, is_none, nat_lt, AllByRecursion, eqb-true, cases_Bool, cases_eq, cases_order, eq-eqb, ltb-true, and_parts, and_from, true≢false, false_from_ne_true, common_steps, some_same, none_some, all-changed, found-has, challenge-has}
+use Rattle.world_laws.proofs.CoinWords.{Owner, RawOpening, Link, Shown, RootCall, Fund, Tick, Deposit, Commit, StartDeposit, StartSpend, After, Between, Before, Respond, Finish, CoinView, now, coin_at, coins, Challenge, Exit, exits, exit_at, block_of, spend_exit, without_exit, challenge_at, with_challenge, with_answer, new_challenge, new_coin, is_exit, CHALLENGE_WINDOW, RESPONSE_WINDOW, Tests, Rules, root_at, is_accepted, answer_to, is_parent_of, StartsDeposit, StartsSpend, Challenges, Responds, accepted_calls_show, exits_are_their_owners, responds_answer, all-append, all-filter, exits-distinct, shown_openings, openings_of_call, Has, has-left, has-right, all-has, only-found, is_challenged_at}
+use Rattle.world_laws.proofs.NodeWords.{exit_block}
+use Rattle.world_laws.proofs.WorldWords.{Event, log_of, coin_of_call, wallet_owner, bound_by, seen, forges_one, is_mine, starts_by, IsLegal, IfOf, AllWatched}
+use Rattle.world_laws.proofs.HeldCoins.{walk-passes, place_of, IsShownAt, Deposited, Transferred, IsShownChallenge, IsBegun, OfDeposit, OfSpend, legal-log, legal-table, all_shown, parent_shown, SignsBy, HeldAt, shown_same}
 use Rattle.plasma_tx.proofs.Answered.{new_challenges_are_open}
-use Rattle.plasma_tx.specs.declared.rules.TheConstants.{CHALLENGE_WINDOW, RESPONSE_WINDOW}
-use Rattle.plasma_tx.specs.Shown.{Tests, Rules, root_at}
-use Rattle.plasma_tx.specs.Table.{is_accepted, answer_to, is_parent_of}
-use Rattle.plasma_tx.specs.Accepted.{StartsDeposit, StartsSpend, Challenges, Responds}
-use Rattle.plasma_tx.proofs.Accepted.{accepted_calls_show}
-use Rattle.plasma_tx.proofs.Bounds.{exits_are_their_owners, responds_answer}
-use Rattle.plasma_tx.proofs.Each.{all-append, all-filter}
-use Rattle.plasma_tx.proofs.RuleNames.{exits-distinct}
-use Rattle.watch_duty.specs.Laws.{shown_openings, openings_of_call}
-use Rattle.watch_duty.proofs.Members.{Has, has-left, has-right, all-has, only-found}
-use Rattle.world_rules.specs.Events.{Event, log_of, coin_of_call, wallet_owner, bound_by}
-use Rattle.node_replies.specs.Orders.{exit_block}
-use Rattle.world_rules.specs.Exhibits.{seen, forges_one}
-use Rattle.world_rules.specs.Safety.{is_mine}
-use Rattle.world_laws.specs.Legal.{starts_by, IsLegal}
-use Rattle.world_laws.proofs.Lists.{some_same, none_some, all-changed, found-has, challenge-has}
-use Rattle.world_laws.proofs.Walk.{walk-passes}
-use Rattle.world_laws.proofs.Histories.{place_of}
-use Rattle.world_laws.proofs.Shown.{IsShownAt, Deposited, Transferred, IsShownChallenge, IsBegun, OfDeposit, OfSpend, legal-log, legal-table, all_shown, parent_shown}
-use Rattle.world_laws.proofs.Bound.{SignsBy}
-use Rattle.world_laws.proofs.Held.{HeldAt, shown_same}
 use Rattle.world_laws.proofs.DueCalls.{OffersDue, Due, due-offered, due-old, due-later, due-planted, due-answer}
-use Rattle.world_laws.specs.Invariant.{IfOf, AllWatched}
 use Rattle.world_laws.proofs.Watched.{IsSpend, is_spend, AtEvent, owner_is, tip_before, tip_unspent, new-watched, challenged-watched, answered-watched}
 
 -- a coin's deposit block isn't 0
@@ -64,7 +33,7 @@ stands log x h =
     (and_from (x.coin == x.coin) (x.block == x.block) (eq-eqb x.coin x.coin refl) (eq-eqb x.block x.block refl))
 
 -- a parent is before the exit
-parent-below : (log : List RootCall) (made : CoinView) (exit : ℕ) (parent : Shown) → made.deposit < exit
+pub parent-below : (log : List RootCall) (made : CoinView) (exit : ℕ) (parent : Shown) → made.deposit < exit
     → is_parent_of log made exit parent ≡ true → block_of parent < exit
 parent-below log made exit parent low fits = grind (arith, common_steps, eqb-true, ltb-true, and_parts)
 
@@ -225,10 +194,8 @@ module _ (tests : Tests) (rules : Rules) (signs : SignsBy tests) (events : List 
   keeps-StartSpend account k parent exit own has none is all =
       all-append (IfOf c at.hold.me e (now (log_of events))) (without_exit k exit.block (exits (log_of events)))
       (spend_exit (log_of events) account k parent exit)
-      (all-filter (IfOf c at.hold.me e (now (log_of events))) (λ (x : Exit). not (is_exit k exit.block x))
-      (exits (log_of events)) all)
-      (λ c_is. new-watched c at.hold.me e (now (log_of events)) (spend_exit (log_of events) account k parent exit)
-      (spends_not c_is) (λ mine. own mine c_is) refl refl)
+      (grind (arith, common_steps, all-filter))
+      (grind (arith, common_steps, new-watched, spends_not))
     where
       spends_not : k ≡ c → block_of parent ≡ e → ⊥
       spends_not c_is at_tip =
@@ -274,9 +241,7 @@ module _ (tests : Tests) (rules : Rules) (signs : SignsBy tests) (events : List 
     where
       named : (x : Exit) (new : Challenge) → is_some (challenge_at new.block x.challenges) ≡ false
           → (with_challenge new x).coin ≡ c → x.coin ≡ c
-      named x new none c_is =
-          ap (λ (b : Bool). (if b then x else record x { challenges = x.challenges ++ new ∷ [] }).coin) (sym none)
-          ∙ c_is
+      named x new none c_is = grind (arith, common_steps)
 
   -- an answer
   keeps-Respond : (account k f challenged : ℕ) (spend : RawOpening)
@@ -331,18 +296,12 @@ module _ (tests : Tests) (rules : Rules) (signs : SignsBy tests) (events : List 
   keeps (StartSpend account k parent exit) own has none ticks is all =
       keeps-StartSpend account k parent exit own has none
       (accepted_calls_show tests rules (log_of events) (StartSpend account k parent exit) is) all
-  keeps (After account k f spend) own has none ticks is all =
-      all-filter (IfOf c at.hold.me e (now (log_of events))) (λ (x : Exit). not (is_exit k f x))
-      (exits (log_of events)) all
-  keeps (Between account k f spend) own has none ticks is all =
-      all-filter (IfOf c at.hold.me e (now (log_of events))) (λ (x : Exit). not (is_exit k f x))
-      (exits (log_of events)) all
+  keeps (After account k f spend) own has none ticks is all = grind (arith, common_steps, all-filter)
+  keeps (Between account k f spend) own has none ticks is all = grind (arith, common_steps, all-filter)
   keeps (Before account k f shown) own has none ticks is all =
       keeps-Before account k f shown
       (accepted_calls_show tests rules (log_of events) (Before account k f shown) is) all
   keeps (Respond account k f challenged spend) own has none ticks is all =
       keeps-Respond account k f challenged spend has none
       (accepted_calls_show tests rules (log_of events) (Respond account k f challenged spend) is) all
-  keeps (Finish account k f) own has none ticks is all =
-      all-filter (IfOf c at.hold.me e (now (log_of events))) (λ (x : Exit). not (is_exit k f x))
-      (exits (log_of events)) all
+  keeps (Finish account k f) own has none ticks is all = grind (arith, common_steps, all-filter)

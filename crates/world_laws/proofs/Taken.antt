@@ -1,21 +1,7 @@
 -- A coin that was taken went unseen before at some tick, unless the events exhibit.
-use Rattle.std.proofs.Common.{◌≡◌, ℕ, true, false, if◌then◌else◌, List, [], ◌∷◌, ◌++◌, Option, Some, None, inl, inr, refl, sym, ap, ◌∙◌, arith, rules}
-use Rattle.std.specs.Prelude.{is_none}
-use Rattle.std.specs.Option.{option_or}
-use Rattle.std.proofs.lemmas.Bool.{cases_Bool, and_from, not_from_false, false≢true}
-use Rattle.std.proofs.lemmas.Grind.{common_steps}
-use Rattle.plasma_tx.specs.declared.owner.Owner.{Owner}
-use Rattle.plasma_tx.specs.Shown.{Rules, tests_by}
-use Rattle.world_rules.specs.declared.verdict.VerdictKind.{VerdictKind}
-use Rattle.world_rules.specs.declared.verdict.Exhibit.{Exhibit}
-use Rattle.world_rules.specs.Laws.{IsDigest}
-use Rattle.world_rules.specs.Events.{Event, wallet_owner}
-use Rattle.world_rules.specs.Exhibits.{exhibit_of}
-use Rattle.world_rules.specs.Verdicts.{takes_from, before_taking, first_unattended, exit_was_paid, lost_or, verdict_at}
-use Rattle.world_laws.specs.Legal.{IsLegal}
-use Rattle.world_laws.specs.LegalLaws.{LegalLostIsExhibited}
-use Rattle.world_laws.specs.Looked.{goes_unseen, is_looked_after, is_taken_kind}
-use Rattle.world_laws.proofs.Lists.{some_same, none_some, append-assoc}
+use Rattle.world_laws.proofs.Basics.{◌≡◌, ℕ, true, false, if◌then◌else◌, List, [], ◌∷◌, ◌++◌, Option, Some, None, inl, inr, refl, ap, ◌∙◌, arith, rules, sym, is_none, option_or, cases_Bool, and_from, not_from_false, false≢true, common_steps, some_same, none_some, append-assoc}
+use Rattle.world_laws.proofs.CoinWords.{Owner, Rules, tests_by}
+use Rattle.world_laws.proofs.WorldWords.{VerdictKind, Exhibit, IsDigest, Event, wallet_owner, exhibit_of, takes_from, before_taking, first_unattended, exit_was_paid, lost_or, verdict_at, IsLegal, LegalLostIsExhibited, goes_unseen, is_looked_after, is_taken_kind}
 use Rattle.world_laws.proofs.Attended.{attended_are_looked_after}
 use Rattle.world_laws.proofs.Exhibited.{no-clash, no-forgery, nothing-exhibited}
 use Rattle.world_laws.proofs.Words.{attended_is_none_unattended}
@@ -94,10 +80,7 @@ module _ (dig : List ℕ → List ℕ) (rules : Rules) (events : List Event) (w 
       let shown = nothing-exhibited dig rules.tag events nothing in
       never-lost dig digest rules me w c e events legal (no-clash dig events c shown.0)
       (no-forgery rules.tag events w c shown.1)
-      (record {
-        same = λ other other_is. some_same other me (sym other_is ∙ me_is);
-        none = λ undeclared. absurd (none_some me (sym undeclared ∙ me_is));
-      }) t.unpaid t.before t.taken looked
+      (grind (arith, common_steps, some_same, none_some)) t.unpaid t.before t.taken looked
 
   pub taken_unseen : is_taken_kind (verdict_at (tests_by dig) rules events me w c e) ≡ true → HasUnseen events w c e
   taken_unseen is =
@@ -105,13 +88,7 @@ module _ (dig : List ℕ → List ℕ) (rules : Rules) (events : List Event) (w 
       let kind : VerdictKind = verdict_at (tests_by dig) rules events me w c e in
       let s = taking-suffix dig rules me w c e events t.before t.taken in
       let u = some-unseen t.before w c e (looked-untaken kind t) in
-      record {
-        later = s.0 ++ u.later;
-        event = u.event;
-        earlier = u.earlier;
-        events_are = s.1 ∙ ap (λ l. s.0 ++ l) u.events_are ∙ append-assoc s.0 u.later (u.event ∷ u.earlier);
-        unseen = u.unseen;
-      }
+      grind (arith, common_steps, append-assoc)
 
 pub lost_is_exhibited : LegalLostIsExhibited
 lost_is_exhibited dig rules events w c e me digest legal me_is lost nothing =

@@ -1,21 +1,7 @@
 -- An event of a run harms a holder exactly where it takes the coin.
-use Rattle.std.proofs.Common.{◌≡◌, ◌<◌, ℕ, ◌+◌, ◌==◌, ◌&&◌, ◌||◌, not, Bool, true, false, if◌then◌else◌, List, [], ◌∷◌, Option, Some, None, refl, sym, arith, rules}
-use Rattle.std.specs.Prelude.{find, nat_lt, nat_le}
-use Rattle.std.proofs.lemmas.Bool.{and_parts, true≢false, ltb-true, ltb-false, le-leb, eqb-true, false_from_ne_true, leb-true}
-use Rattle.std.proofs.lemmas.Grind.{common_steps}
-use Rattle.plasma_tx.specs.declared.rules.TheConstants.{EXIT_PERIOD}
-use Rattle.plasma_tx.specs.declared.owner.Owner.{Owner}
-use Rattle.plasma_tx.specs.declared.call.RootCall.{RootCall}
-use Rattle.plasma_tx.specs.declared.answer.Answer.{Answer}
-use Rattle.plasma_tx.specs.declared.answer.Refusal.{Refusal}
-use Rattle.plasma_tx.specs.Views.{now, Exit, exits, exit_at, is_exit}
-use Rattle.plasma_tx.specs.Shown.{Tests, Rules}
-use Rattle.plasma_tx.specs.RuleLaws.{is_paid}
-use Rattle.plasma_tx.specs.Table.{answer_to, is_accepted, decided, where_exit, finish_causes, finish_effect}
-use Rattle.world_rules.specs.Events.{Event, Joins, wallet_owner}
-use Rattle.world_rules.specs.Safety.{holds, is_mine, is_own, finish_harms, call_harms, is_harmed}
-use Rattle.world_rules.specs.Verdicts.{is_others, pays_other, ends_own, takes_from}
-use Rattle.world_laws.specs.Legal.{IsLegalEvent}
+use Rattle.world_laws.proofs.Basics.{◌≡◌, ◌<◌, ℕ, ◌+◌, ◌==◌, ◌&&◌, ◌||◌, not, Bool, true, false, if◌then◌else◌, List, [], ◌∷◌, Option, Some, None, refl, sym, arith, rules, find, nat_lt, nat_le, and_parts, true≢false, ltb-true, ltb-false, le-leb, eqb-true, false_from_ne_true, leb-true, common_steps}
+use Rattle.world_laws.proofs.CoinWords.{EXIT_PERIOD, Owner, RootCall, Answer, Refusal, now, Exit, exits, exit_at, is_exit, Tests, Rules, is_paid, answer_to, is_accepted, decided, where_exit, finish_causes, finish_effect}
+use Rattle.world_laws.proofs.WorldWords.{Event, Joins, wallet_owner, holds, is_mine, is_own, finish_harms, call_harms, is_harmed, is_others, pays_other, ends_own, takes_from, IsLegalEvent}
 
 -- an exit that is found is of the block
 exit-block : (c e : ℕ) (exits : List Exit) (exit : Exit) → find (is_exit c e) exits ≡ Some exit

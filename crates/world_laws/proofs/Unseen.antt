@@ -1,17 +1,7 @@
 -- What an unseen tick is: it meets the end of a window of the held coin after which nobody looked.
-use Rattle.std.proofs.Common.{◌≡◌, ℕ, ◌+◌, ◌==◌, ◌&&◌, not, true, false, if◌then◌else◌, List, Option, Some, None, refl}
-use Rattle.std.specs.List.{list_any}
-use Rattle.std.specs.Option.{option_map_or}
-use Rattle.std.proofs.lemmas.Bool.{eqb-true, and_parts, not-true, false≢true}
-use Rattle.plasma_tx.specs.declared.owner.Owner.{Owner}
-use Rattle.plasma_tx.specs.declared.call.RootCall.TheVariants.{Tick}
-use Rattle.plasma_tx.specs.Views.{now, Challenge, Exit, exits}
-use Rattle.plasma_tx.specs.declared.rules.TheConstants.{CHALLENGE_WINDOW}
-use Rattle.watch_duty.proofs.Members.{Has}
-use Rattle.world_rules.specs.Events.{Event, Joins, log_of, wallet_owner}
-use Rattle.world_rules.specs.Safety.{holds, is_met, meets_challenge, is_mine}
-use Rattle.world_laws.specs.Looked.{exit_has_look, challenge_has_look, passes_unseen, goes_unseen}
-use Rattle.world_laws.proofs.Lists.{any-some}
+use Rattle.world_laws.proofs.Basics.{◌≡◌, ℕ, ◌+◌, ◌==◌, ◌&&◌, not, true, false, if◌then◌else◌, List, Option, Some, None, refl, list_any, option_map_or, eqb-true, and_parts, not-true, false≢true, any-some}
+use Rattle.world_laws.proofs.CoinWords.{Owner, Tick, now, Challenge, Exit, exits, CHALLENGE_WINDOW, Has}
+use Rattle.world_laws.proofs.WorldWords.{Event, Joins, log_of, wallet_owner, holds, is_met, meets_challenge, is_mine, exit_has_look, challenge_has_look, passes_unseen, goes_unseen}
 
 -- a tick to this time ends a window after which nobody looked
 pub data EndsUnseen (events : List Event) (w c e time : ℕ) : Type 0 where

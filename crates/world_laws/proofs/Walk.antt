@@ -1,22 +1,6 @@
 -- What a history shows, as a walk along its openings.
-use Rattle.std.proofs.Common.{◌≡◌, ◌≢◌, ◌⊎◌, ℕ, ◌<◌, ◌≤◌, true, List, [], ◌∷◌, Option, Some, None, inl, inr, refl, sym, ap, ◌∙◌, subst, arith, rules}
-use Rattle.std.specs.Prelude.{is_some}
-use Rattle.std.specs.Option.{option_map}
-use Rattle.std.specs.List.{cons_option}
-use Rattle.std.proofs.lemmas.Bool.{cases_order, ne_eqb, eq-eqb}
-use Rattle.std.proofs.lemmas.Grind.{common_steps}
-use Rattle.plasma_tx.specs.declared.owner.Owner.{Owner}
-use Rattle.plasma_tx.specs.declared.opening.RawOpening.{RawOpening}
-use Rattle.plasma_tx.specs.declared.signed_tx.SignedTx.{SignedTx}
-use Rattle.plasma_tx.specs.declared.call.RootCall.{RootCall}
-use Rattle.plasma_tx.specs.Transfer.{transfer_in}
-use Rattle.plasma_tx.proofs.Leaves.{empty-none}
-use Rattle.plasma_tx.specs.Shown.{Tests, Rules, root_at}
-use Rattle.coin_history.specs.History.{leaf_of_opening, transfer_of, links_in}
-use Rattle.coin_history.proofs.HistoryLinks.{with_tx, none-linked}
-use Rattle.watch_duty.specs.Duty.{next_link}
-use Rattle.watch_duty.proofs.Members.{Has}
-use Rattle.world_laws.proofs.Lists.{some_same, none_some}
+use Rattle.world_laws.proofs.Basics.{◌≡◌, ◌≢◌, ◌⊎◌, ℕ, ◌<◌, ◌≤◌, true, List, [], ◌∷◌, Some, None, inl, inr, refl, sym, ap, ◌∙◌, subst, arith, rules, is_some, cases_order, ne_eqb, eq-eqb, common_steps, some_same, none_some}
+use Rattle.world_laws.proofs.CoinWords.{Owner, RawOpening, SignedTx, RootCall, transfer_in, empty-none, Tests, Rules, root_at, leaf_of_opening, transfer_of, links_in, with_tx, none-linked, next_link, Has}
 use Rattle.world_laws.proofs.Clash.{IsOpened}
 
 -- where a coin is
@@ -37,14 +21,12 @@ empty-no_tx rules c o tx empty is =
 links-none : (rules : Rules) (c : ℕ) (o : RawOpening) (os : List RawOpening) → transfer_of rules c o ≡ None
     → links_in rules c (o ∷ os) ≡ links_in rules c os
 unfolding links_in
-links-none rules c o os none = ap
-    (λ (t : Option SignedTx). cons_option (option_map (with_tx o) t) (links_in rules c os)) none
+links-none rules c o os none = grind (arith, common_steps, with_tx)
 
 links-some : (rules : Rules) (c : ℕ) (o : RawOpening) (os : List RawOpening) (tx : SignedTx)
     → transfer_of rules c o ≡ Some tx → links_in rules c (o ∷ os) ≡ with_tx o tx ∷ links_in rules c os
 unfolding links_in
-links-some rules c o os tx is = ap
-    (λ (t : Option SignedTx). cons_option (option_map (with_tx o) t) (links_in rules c os)) is
+links-some rules c o os tx is = grind (arith, common_steps, with_tx)
 
 links-absent : (rules : Rules) (c : ℕ) (o : RawOpening) (os : List RawOpening) → leaf_of_opening o ≡ []
     → links_in rules c (o ∷ os) ≡ links_in rules c os
@@ -175,8 +157,7 @@ module _ (tests : Tests) (rules : Rules) where
         omega (arith, parent)
     walk-parents n last (p ∷ os) end walk low o tx (inr h) is =
         let up = step-above n last p walk.next walk.step low walk.rises in
-        let more = walk-parents p.block walk.next os end walk.rest up.1 o tx h is in
-        omega (arith, up.0, more)
+        grind (arith, common_steps, walk-parents p.block walk.next os end walk.rest up.1 o tx h is)
 
     -- of two links the later has its parent not before the earlier
     pub walk-order : (n : ℕ) (last : Place) (os : List RawOpening) (end : Place) → IsWalk log c n last os end
@@ -192,10 +173,7 @@ module _ (tests : Tests) (rules : Rules) where
         let e : q.block ≡ p.block = ap (λ (x : RawOpening). x.block) sp in absurd (omega (arith, above))
     walk-order n last (q ∷ os) end walk low o p tx up (inl so) (inr hp) o_is p_is below =
         let s = step-parent last q walk.next tx walk.step (ap (transfer_of rules c) so ∙ o_is) in
-        let next_is : walk.next.block ≡ q.block = ap (λ (x : Place). x.block) s.1 in
-        let more = walk-parents q.block walk.next os end walk.rest (omega (arith, next_is)) p up hp p_is in
-        let e : q.block ≡ o.block = ap (λ (x : RawOpening). x.block) so in
-        omega (arith, next_is, more)
+        grind (arith, common_steps, walk-parents)
     walk-order n last (q ∷ os) end walk low o p tx up (inr ho) (inr hp) o_is p_is below =
         let s = step-above n last q walk.next walk.step low walk.rises in
         walk-order q.block walk.next os end walk.rest s.1 o p tx up ho hp o_is p_is below
@@ -223,13 +201,7 @@ module _ (tests : Tests) (rules : Rules) where
     walk-spends n last [] end walk o tx h is below = absurd h
     walk-spends n last (p ∷ os) end walk o tx (inl same) is below =
         let s = step-parent last p walk.next tx walk.step (ap (transfer_of rules c) same ∙ is) in
-        let e : walk.next ≡ record { block = o.block; owner = tx.body.to } =
-        s.1 ∙ ap (λ (x : RawOpening). record { block = x.block; owner = tx.body.to }) same in
-        let here : Place = record { block = o.block; owner = tx.body.to } in
-        let f : p.block ≡ o.block = ap (λ (x : RawOpening). x.block) same in
-        successor-later c p os o.block tx.body.to
-        (walk-spends_last p.block here os end (subst (λ x. IsWalk log c p.block x os end) e walk.rest) (omega arith)
-        below)
+        grind (arith, common_steps, successor-later, walk-spends_last)
     walk-spends n last (p ∷ os) end walk o tx (inr h) is below =
         successor-later c p os o.block tx.body.to (walk-spends p.block walk.next os end walk.rest o tx h is below)
 
@@ -286,8 +258,7 @@ module _ (tests : Tests) (rules : Rules) where
     pub next-tip : (n : ℕ) (last : Place) (os : List RawOpening) (end : Place) → IsWalk log c n last os end
         → last.block ≤ n → next_link end.block last.block (links_in rules c os) ≡ None
     unfolding IsWalk next_link
-    next-tip n last [] end walk low =
-        ap (next_link end.block last.block) (none-linked rules c)
+    next-tip n last [] end walk low = ap (next_link end.block last.block) (none-linked rules c)
     next-tip n last (p ∷ os) end walk low =
         let up = walk-passes p.block walk.next os end walk.rest in
         let s = step-above n last p walk.next walk.step low walk.rises in

@@ -1,29 +1,8 @@
 -- What each event keeps of the exits of a held coin.
-use Rattle.std.proofs.Common.{◌≡◌, ◌≢◌, ℕ, ◌+◌, ◌<◌, ◌≤◌, ◌==◌, true, false, if◌then◌else◌, List, [], ◌∷◌, ◌++◌, map, Some, refl, ◌∙◌, subst, arith, rules}
-use Rattle.std.specs.Prelude.{is_some, is_none}
-use Rattle.std.proofs.lemmas.Bool.{cases_lt, true≢false}
-use Rattle.std.proofs.lemmas.Grind.{common_steps}
-use Rattle.plasma_tx.specs.declared.owner.Owner.{Owner}
-use Rattle.plasma_tx.specs.declared.opening.RawOpening.{RawOpening}
-use Rattle.plasma_tx.specs.declared.signed_tx.SignedTx.{SignedTx}
-use Rattle.plasma_tx.specs.declared.call.RootCall.{RootCall}
-use Rattle.plasma_tx.specs.Views.{Challenge, Exit, challenge_at, with_challenge, with_answer, with_answer_at}
-use Rattle.plasma_tx.specs.declared.rules.TheConstants.{CHALLENGE_WINDOW, RESPONSE_WINDOW}
-use Rattle.plasma_tx.specs.Shown.{Tests, Rules}
-use Rattle.plasma_tx.specs.Accepted.{ShowsTx}
-use Rattle.plasma_tx.proofs.Each.{all-append}
-use Rattle.coin_history.specs.History.{transfer_of}
-use Rattle.watch_duty.proofs.Members.{Has, all-has}
-use Rattle.world_rules.specs.Events.{Event, log_of, wallet_owner, bound_by, signed_away_by}
-use Rattle.world_rules.specs.Exhibits.{seen, forges_one}
-use Rattle.world_rules.specs.Safety.{is_mine}
-use Rattle.world_laws.specs.Invariant.{IsWatched}
-use Rattle.world_laws.proofs.Lists.{all-from, all-answered}
-use Rattle.world_laws.proofs.Clash.{IsOpened, HasOneLeaf}
-use Rattle.world_laws.proofs.Shown.{IsShownAt, shown_at-grow}
-use Rattle.world_laws.proofs.Absences.{IsParted}
-use Rattle.world_laws.proofs.Bound.{SignsBy, Holding, line_bound, unspent}
-use Rattle.world_laws.proofs.Held.{HeldAt, shown_same, end_shown}
+use Rattle.world_laws.proofs.Basics.{◌≡◌, ◌≢◌, ℕ, ◌+◌, ◌<◌, ◌≤◌, ◌==◌, true, false, if◌then◌else◌, List, [], ◌∷◌, ◌++◌, map, Some, refl, ◌∙◌, subst, arith, rules, is_some, is_none, cases_lt, true≢false, common_steps, all-from, all-answered}
+use Rattle.world_laws.proofs.CoinWords.{Owner, RawOpening, SignedTx, RootCall, Challenge, Exit, challenge_at, with_challenge, with_answer, with_answer_at, CHALLENGE_WINDOW, RESPONSE_WINDOW, Tests, Rules, ShowsTx, all-append, transfer_of, Has, all-has}
+use Rattle.world_laws.proofs.WorldWords.{Event, log_of, wallet_owner, bound_by, signed_away_by, seen, forges_one, is_mine, IsWatched}
+use Rattle.world_laws.proofs.HeldCoins.{IsOpened, HasOneLeaf, IsShownAt, shown_at-grow, IsParted, SignsBy, Holding, line_bound, unspent, HeldAt, shown_same, end_shown}
 
 -- ---- challenges
 
@@ -75,8 +54,7 @@ module _ (tests : Tests) (rules : Rules) (signs : SignsBy tests) (events : List 
   pub seen_more : (n : ℕ) (owner : Owner)
       → IsShownAt tests rules (log_of events) (seen events c) c at.held.made n owner
       → IsShownAt tests rules (log_of events) more c at.held.made n owner
-  seen_more n owner s =
-      shown_at-grow tests rules (log_of events) c (seen events c) more at.held.made at.has n owner s
+  seen_more n owner s = shown_at-grow tests rules (log_of events) c (seen events c) more at.held.made at.has n owner s
 
   pub tip_before : IsShownAt tests rules (log_of events) (seen events c) c at.held.made e at.hold.me
   tip_before =
@@ -86,10 +64,7 @@ module _ (tests : Tests) (rules : Rules) (signs : SignsBy tests) (events : List 
   -- whoever owns the block e is the holder
   pub owner_is : (n : ℕ) (owner : Owner) → IsShownAt tests rules (log_of events) more c at.held.made n owner → n ≡ e
       → owner ≡ at.hold.me
-  owner_is n owner shown is =
-      shown_same tests rules (log_of events) more c at.held.made at.one e owner at.hold.me
-      (subst (λ k. IsShownAt tests rules (log_of events) more c at.held.made k owner) is shown)
-      (seen_more e at.hold.me tip_before)
+  owner_is n owner shown is = grind (arith, common_steps, shown_same, seen_more, tip_before)
 
   -- no opening of the event's call spends the tip
   pub tip_unspent : (openings : List RawOpening)

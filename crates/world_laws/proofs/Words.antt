@@ -1,11 +1,6 @@
 -- The words of the headline and the printed lines: what is attended, and what is exhibited.
-use Rattle.std.proofs.Common.{[], ◌∷◌, refl, arith}
-use Rattle.std.proofs.lemmas.Bool.{true≢false}
-use Rattle.std.proofs.lemmas.Grind.{common_steps}
-use Rattle.world_rules.specs.Safety.{is_attended}
-use Rattle.world_rules.specs.Verdicts.{first_unattended}
-use Rattle.world_rules.specs.Exhibits.{collides}
-use Rattle.world_laws.specs.Headline.{AttendedIsNoneUnattended, ExhibitsAreShown}
+use Rattle.world_laws.proofs.Basics.{[], ◌∷◌, refl, arith, true≢false, common_steps}
+use Rattle.world_laws.proofs.WorldWords.{is_attended, first_unattended, collides, AttendedIsNoneUnattended, ExhibitsAreShown}
 use Rattle.world_laws.proofs.Exhibited.{no-clash, no-forgery, nothing-exhibited}
 
 pub attended_is_none_unattended : AttendedIsNoneUnattended

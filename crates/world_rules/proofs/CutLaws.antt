@@ -1,22 +1,8 @@
 -- What a crash, a cut and a command of a node that is down do.
-use Rattle.std.proofs.Common.{◌≡◌, ℕ, ◌&&◌, not, Bool, true, false, if◌then◌else◌, List, Option, Some, inl, inr, refl, sym, ap, ◌∙◌, subst, arith}
-use Rattle.std.specs.Prelude.{slice_get, nat_lt, option_map, option_and_then}
-use Rattle.std.proofs.lemmas.Bool.{and_cases, or_parts, ltb-false, le-leb}
-use Rattle.std.proofs.lemmas.Grind.{common_steps}
-use Rattle.line_forms.specs.declared.tokens.OutcomeToken.{OutcomeToken}
-use Rattle.gate_journal.specs.Laws.{is_added}
-use Rattle.plasma_tx.proofs.Names.{some_same}
-use Rattle.schedule_text.specs.declared.line.Line.{Line}
-use Rattle.schedule_text.specs.declared.command.Command.{Command}
-use Rattle.schedule_text.specs.Grammar.{node_of}
-use Rattle.node_replies.specs.declared.reply.Reply.{Reply}
-use Rattle.world_rules.specs.Events.{Other}
-use Rattle.world_rules.specs.World.{Role, Node, World, with_node, any_role, number_of}
-use Rattle.world_rules.specs.Declarations.{plays}
-use Rattle.world_rules.specs.Deeds.{Deed, adds_record, deed_of}
-use Rattle.world_rules.specs.Orders.{order_of}
-use Rattle.world_rules.specs.Steps.{LineEffect, says, without_offers, with_records, after_crash, with_mail, step, stopped, finished, cut, is_stopped, is_opening, answers_down, outcome_of, act_at, act_on, command_effect, cut_effect, down, crashed, effect_in}
-use Rattle.world_rules.specs.Laws.{CrashesLeaveTheRecords, IsCommandIn, StaysDown, DownNodesStay, IsCutTo, CutsKeepAsAppendsDo, CutOpeningsLeaveTheRecords}
+use Rattle.world_rules.proofs.Basics.{◌≡◌, ℕ, ◌&&◌, not, Bool, true, false, if◌then◌else◌, List, Option, Some, inl, inr, refl, sym, ap, ◌∙◌, subst, arith, slice_get, nat_lt, option_map, option_and_then, and_cases, or_parts, ltb-false, le-leb, common_steps}
+use Rattle.world_rules.proofs.CoinWords.{some_same}
+use Rattle.world_rules.proofs.NodeWords.{is_added, Reply}
+use Rattle.world_rules.proofs.WorldWords.{OutcomeToken, Line, Command, node_of, Other, Role, Node, World, with_node, any_role, number_of, plays, Deed, adds_record, deed_of, order_of, LineEffect, says, without_offers, with_records, after_crash, with_mail, step, stopped, finished, cut, is_stopped, is_opening, answers_down, outcome_of, act_at, act_on, command_effect, cut_effect, down, crashed, effect_in, CrashesLeaveTheRecords, IsCommandIn, StaysDown, DownNodesStay, IsCutTo, CutsKeepAsAppendsDo, CutOpeningsLeaveTheRecords}
 use Rattle.world_rules.proofs.Lines.{effects_are_of_acts}
 use Rattle.world_rules.proofs.Lives.{stepped}
 
@@ -155,8 +141,7 @@ cuts_keep_as_appends_do dig world name calls outcome command n node deed effect 
     (sym (cut-is dig world name calls outcome command n node deed effect number node_is up deed_is is))
     (cut-to world n node calls outcome command deed short after
     (ap (λ b. if b then not node.is_up && nat_lt calls 3 else short) other)
-    (λ stops. ap (λ b. if not b && is_added calls (outcome_of outcome) then with_records node deed else node)
-    (sym other))
+    (grind (arith, common_steps))
     (λ ends. sym (kept-so node deed calls outcome ends)))
 
 -- an opening adds no record
@@ -170,8 +155,7 @@ cut_openings_leave_the_records dig world name opened calls outcome n node deed e
     subst (λ e. IsCutTo world n node (not node.is_up && nat_lt calls 3) deed e)
     (sym (cut-is dig world name calls outcome (Command.Open opened) n node deed effect number node_is
     (never node.is_up) deed_is is))
-    (cut-to world n node calls outcome (Command.Open opened) deed (not node.is_up && nat_lt calls 3) node refl
-    (λ stops. refl) (λ ends. sym (opening-none dig world n node opened deed deed_is)))
+    (grind (arith, common_steps, cut-to, opening-none))
   where
     never : (b : Bool) → (not b && false) ≡ false
     never true = refl

@@ -1,12 +1,7 @@
 -- What is found in a list stands there.
-use Rattle.std.proofs.Common.{◌≡◌, ◌<◌, ℕ, Bool, true, List, length, Some, inl, inr, sym, ap, ◌∙◌, arith}
-use Rattle.std.specs.Prelude.{slice_get}
-use Rattle.std.specs.List.{position, position_or_len}
-use Rattle.std.proofs.lemmas.Bool.{ltb-true}
+use Rattle.world_rules.proofs.Basics.{◌≡◌, ◌<◌, ℕ, Bool, true, List, length, Some, inl, inr, sym, ap, ◌∙◌, arith, slice_get, position, position_or_len, ltb-true, slice_get_cases, common_steps}
+use Rattle.world_rules.proofs.CoinWords.{some_same}
 use Rattle.std.proofs.lemmas.List.Quantifiers.{position-Some}
-use Rattle.std.proofs.lemmas.Option.{slice_get_cases}
-use Rattle.std.proofs.lemmas.Grind.{common_steps}
-use Rattle.plasma_tx.proofs.Names.{some_same}
 
 -- the first place that passes is inside the list
 pub position-parts : {X : Type 0} (p : X → Bool) (xs : List X) (i : ℕ) → position p xs ≡ Some i

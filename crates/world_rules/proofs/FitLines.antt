@@ -1,18 +1,8 @@
 -- The numbers and bytes of lines that are in the grammar fit.
-use Rattle.std.proofs.Common.{◌≡◌, ℕ, ◌^◌, ◌<◌, true, Option, arith, List}
-use Rattle.std.proofs.lemmas.Bool.{and_from, or_left, or_right, eq-eqb, cases_eq}
-use Rattle.std.proofs.lemmas.Grind.{common_steps}
-use Rattle.line_forms.specs.declared.tokens.OutcomeToken.{OutcomeToken}
-use Rattle.lms_sign.specs.declared.types.LmsTypes.{LmsTypes}
-use Rattle.lms_sign.specs.Types.{is_supported}
-use Rattle.schedule_text.specs.declared.line.Line.{Line}
-use Rattle.schedule_text.specs.declared.command.Command.{Command}
-use Rattle.schedule_text.specs.Grammar.{IsLine}
-use Rattle.world_rules.specs.Declarations.{types_or_first}
+use Rattle.world_rules.proofs.Basics.{◌≡◌, ℕ, ◌^◌, ◌<◌, true, Option, arith, List, and_from, or_left, or_right, eq-eqb, cases_eq, common_steps}
+use Rattle.world_rules.proofs.CoinWords.{LmsTypes, is_supported}
+use Rattle.world_rules.proofs.WorldWords.{OutcomeToken, Line, Command, IsLine, types_or_first, HexOrName, OWNER_BYTES, IsHexOrName}
 use Rattle.world_rules.proofs.KeptNode.{IsFit}
-use Rattle.line_forms.specs.declared.tokens.HexOrName.{HexOrName}
-use Rattle.line_forms.specs.declared.tokens.TheConstants.{OWNER_BYTES}
-use Rattle.line_forms.specs.Tokens.{IsHexOrName}
 
 -- ---- commands
 

@@ -1,13 +1,7 @@
 -- The act of a line in the grammar has numbers, owners and bytes that fit.
-use Rattle.std.proofs.Common.{◌≡◌, ◌<◌, ◌^◌, true, Some, subst, arith}
-use Rattle.std.proofs.lemmas.Grind.{common_steps}
-use Rattle.lms_sign.specs.Types.{is_supported}
-use Rattle.schedule_text.specs.declared.line.Line.{Line}
-use Rattle.schedule_text.specs.declared.command.Command.{Command}
-use Rattle.schedule_text.specs.Grammar.{IsLine}
-use Rattle.world_rules.specs.World.{World}
-use Rattle.world_rules.specs.Laws.{IsCommandIn}
-use Rattle.world_rules.specs.Acts.{Newcomer, NewWallet, NewWatcher, NewRogue, Act, Signs, Adds, Orders, act_of}
+use Rattle.world_rules.proofs.Basics.{◌≡◌, ◌<◌, ◌^◌, true, Some, subst, arith, common_steps}
+use Rattle.world_rules.proofs.CoinWords.{is_supported}
+use Rattle.world_rules.proofs.WorldWords.{Line, Command, IsLine, World, IsCommandIn, Newcomer, NewWallet, NewWatcher, NewRogue, Act, Signs, Adds, Orders, act_of}
 use Rattle.world_rules.proofs.KeptNode.{IsGoodOwner, Feeds, IsFit, IsFitOrder, order-fit}
 use Rattle.world_rules.proofs.FitLines.{command-fit, cut-fit, wallet-fit, watcher-fit, rogue-fit, sign-fit}
 use Rattle.world_rules.proofs.Lines.{IsLineOf, is-act}

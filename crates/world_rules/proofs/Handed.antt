@@ -1,30 +1,11 @@
 -- A bundle that is handed in and taken: it is of the coin and the tip of its links, and of a coin that the log has.
-use Rattle.std.proofs.Common.{◌≡◌, ℕ, ◌||◌, Bool, true, List, [], ◌∷◌, Some, Ok, refl, sym, ap, ◌∙◌, arith, rules}
-use Rattle.std.specs.Prelude.{unwrap_or}
+use Rattle.world_rules.proofs.Basics.{◌≡◌, ℕ, ◌||◌, Bool, true, List, [], ◌∷◌, Some, Ok, refl, sym, ap, ◌∙◌, arith, rules, unwrap_or, eqb-true, eq-eqb, or_cases, and_from, or_left, or_right, common_steps}
+use Rattle.world_rules.proofs.CoinWords.{Owner, RawOpening, Links, RootCall, CoinView, tip_of, last_owner_of, coin_at, tests_by, Rules, Bundle, bundle_in, IsHistory, blocks_of, committed_blocks, links_in, Notes, is_owner, is_noted}
+use Rattle.world_rules.proofs.NodeWords.{chain_of, kept_of, links_handed, is_known, Small, AreSmallOpenings, read-small, kept-small}
+use Rattle.world_rules.proofs.WorldWords.{bundle_read, was_deposited}
 use Rattle.std.specs.Result.{result_ok}
-use Rattle.std.proofs.lemmas.Bool.{eqb-true, eq-eqb, or_cases, and_from, or_left, or_right}
-use Rattle.plasma_tx.specs.declared.owner.Owner.{Owner}
-use Rattle.plasma_tx.specs.declared.opening.RawOpening.{RawOpening}
-use Rattle.plasma_tx.specs.declared.links.Links.{Links}
-use Rattle.plasma_tx.specs.declared.call.RootCall.{RootCall}
-use Rattle.plasma_tx.specs.declared.views.CoinView.{CoinView}
-use Rattle.plasma_tx.specs.Links.{tip_of, last_owner_of}
-use Rattle.plasma_tx.specs.Views.{coin_at}
-use Rattle.plasma_tx.specs.Shown.{tests_by, Rules}
-use Rattle.coin_history.specs.declared.bundle.Bundle.{Bundle}
-use Rattle.coin_history.specs.Bundles.{bundle_in}
-use Rattle.coin_history.specs.History.{IsHistory, blocks_of, committed_blocks, links_in}
 use Rattle.coin_history.proofs.BundleLaws.{text-bundle_in}
-use Rattle.wallet_core.specs.declared.notes.Notes.{Notes}
-use Rattle.wallet_core.specs.State.{is_owner, is_noted}
-use Rattle.node_rules.specs.Kept.{chain_of, kept_of, links_handed}
-use Rattle.node_rules.specs.Wallet.{is_known}
 use Rattle.node_rules.proofs.KeptTexts.{handed-bundle}
-use Rattle.world_rules.specs.OrderEvents.{bundle_read}
-use Rattle.world_rules.specs.Safety.{was_deposited}
-use Rattle.node_replies.proofs.ByteTexts.{Small}
-use Rattle.node_replies.proofs.BundleTexts.{AreSmallOpenings, read-small, kept-small}
-use Rattle.std.proofs.lemmas.Grind.{common_steps}
 use Rattle.coin_history.proofs.HistoryFound.{histories_are_found}
 
 -- the bundle that the bytes spell, as its links show it

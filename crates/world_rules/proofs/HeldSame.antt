@@ -1,27 +1,11 @@
 -- What events say of a wallet's coins is what its records say.
-use Rattle.std.proofs.Common.{◌≡◌, ℕ, zero, suc, ◌+◌, ◌<◌, ◌==◌, ◌&&◌, ◌||◌, not, Bool, true, false, if◌then◌else◌, List, [], ◌∷◌, ◌++◌, map, length, Option, Some, is_some, refl, sym, ap, ◌∙◌, arith}
-use Rattle.std.specs.Prelude.{reverse, slice_get, find}
-use Rattle.std.specs.List.{list_any, range_with_len}
-use Rattle.std.proofs.lemmas.List.{reverse-append, length-reverse, length-map, map-append}
-use Rattle.std.proofs.lemmas.List.Folds.{list_any-append}
-use Rattle.std.proofs.lemmas.Grind.{common_steps}
-use Rattle.plasma_tx.specs.declared.owner.Owner.{Owner}
-use Rattle.plasma_tx.specs.declared.body.Body.{Body}
-use Rattle.plasma_tx.specs.declared.call.RootCall.{RootCall}
-use Rattle.plasma_tx.specs.declared.views.CoinView.{CoinView}
-use Rattle.plasma_tx.specs.Views.{coin_at}
-use Rattle.wallet_core.specs.declared.notes.CoinTip.{CoinTip}
-use Rattle.wallet_core.specs.declared.notes.LeafRecord.{LeafRecord}
-use Rattle.wallet_core.specs.declared.notes.Notes.{Notes}
-use Rattle.wallet_core.specs.State.{own_deposit, noted_tips, tips_of, spends_tip, sends_by, sending_leaf, is_noted, holds as wallet_holds}
-use Rattle.node_rules.specs.WalletRecords.{owner_of, leaves_in}
-use Rattle.node_rules.specs.Wallet.{WalletRecords, who, noted}
-use Rattle.world_rules.specs.Events.{Event, log_of, wallet_owner, accepted, is_taken, not_taken, signed_away_by, is_sent_from, is_bundle}
-use Rattle.world_rules.specs.World.{Node, wallet_of}
-use Rattle.world_rules.specs.Safety.{was_deposited, holds_with, holds}
-use Rattle.world_rules.specs.Laws.{AreKept}
+use Rattle.world_rules.proofs.Basics.{◌≡◌, ℕ, zero, suc, ◌+◌, ◌<◌, ◌==◌, ◌&&◌, ◌||◌, not, Bool, true, false, if◌then◌else◌, List, [], ◌∷◌, ◌++◌, map, length, Option, Some, is_some, refl, sym, ap, ◌∙◌, arith, reverse, slice_get, find, list_any, range_with_len, reverse-append, length-reverse, length-map, map-append, list_any-append, common_steps}
+use Rattle.world_rules.proofs.CoinWords.{Owner, Body, RootCall, CoinView, coin_at, CoinTip, LeafRecord, Notes, own_deposit, noted_tips, tips_of, spends_tip, sends_by, sending_leaf, is_noted, wallet_holds}
+use Rattle.world_rules.proofs.NodeWords.{owner_of, leaves_in, WalletRecords, who, noted}
+use Rattle.world_rules.proofs.WorldWords.{Event, log_of, wallet_owner, accepted, is_taken, not_taken, signed_away_by, is_sent_from, is_bundle, Node, wallet_of, was_deposited, holds_with, holds, AreKept}
 use Rattle.world_rules.proofs.Said.{Said, said}
 use Rattle.world_rules.proofs.KeptWallet.{KeptWallet, state-me}
+use Rattle.world_rules.proofs.Runs.{push-same}
 
 -- ---- lists
 
@@ -58,10 +42,6 @@ get-before : {X : Type 0} (xs : List X) (y : X) (q : ℕ) → q < length xs
 get-before [] y q below = absurd (omega (arith, below))
 get-before (x ∷ xs) y zero below = refl
 get-before (x ∷ xs) y (suc q) below = get-before xs y q (omega (arith, below))
-
-get-last : {X : Type 0} (xs : List X) (y : X) → slice_get (xs ++ y ∷ []) (length xs) ≡ Some y
-get-last [] y = refl
-get-last (x ∷ xs) y = get-last xs y
 
 -- ---- leaves that sign a coin away
 
@@ -110,7 +90,7 @@ module _ (reclaimed taken : List ℕ)
 
       last-one : (n : ℕ) → n ≡ length bodies → sends_by reclaimed (leaves-of (body ∷ bodies)) c e (0 + n)
           ≡ (spends_tip c e (record-of body) && not (is_taken taken n))
-      last-one n is = grind (arith, common_steps, leaves-of, leaves-length, leaves-push, record-of, get-last)
+      last-one n is = grind (arith, common_steps, leaves-of, leaves-length, leaves-push, record-of, push-same)
 
       joined : (b : Bool)
           → (is_sent_from (not_taken taken bodies) c e || (spends_tip c e (record-of body) && not b))

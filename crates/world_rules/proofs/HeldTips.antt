@@ -1,20 +1,7 @@
 -- The blocks at which a wallet ever held a coin are among its tips, and the greatest of them is its held tip.
-use Rattle.std.proofs.Common.{◌≡◌, ◌⊎◌, ℕ, ◌≤◌, ◌==◌, ◌&&◌, ◌||◌, max, map, filter, Bool, true, false, if◌then◌else◌, List, [], ◌∷◌, Option, Some, None, inl, inr, refl, arith}
-use Rattle.std.specs.List.{list_any}
-use Rattle.std.specs.Option.{option_map_or}
-use Rattle.std.proofs.lemmas.Bool.{cases_lt, and_parts, or_cases, or_left, or_right, eqb-true, eq-eqb, false≢true}
-use Rattle.std.proofs.lemmas.List.Folds.{list_any-append}
-use Rattle.std.proofs.lemmas.Grind.{common_steps}
-use Rattle.plasma_tx.specs.declared.owner.Owner.{Owner}
-use Rattle.plasma_tx.specs.declared.call.RootCall.{RootCall}
-use Rattle.plasma_tx.specs.declared.views.CoinView.{CoinView}
-use Rattle.plasma_tx.specs.Views.{coin_at}
-use Rattle.coin_history.specs.declared.bundle.Bundle.{Bundle}
-use Rattle.coin_history.proofs.HistoryGrow.{coin_at-grown}
-use Rattle.wallet_core.specs.State.{greatest}
-use Rattle.world_rules.specs.Events.{Event, log_of, wallet_owner, accepted, is_bundle}
-use Rattle.world_rules.specs.Safety.{was_deposited, holds}
-use Rattle.world_rules.specs.Verdicts.{ever_held, own_deposit_of, possible_tips, held_tip}
+use Rattle.world_rules.proofs.Basics.{◌≡◌, ◌⊎◌, ℕ, ◌≤◌, ◌==◌, ◌&&◌, ◌||◌, max, map, filter, Bool, true, false, if◌then◌else◌, List, [], ◌∷◌, Option, Some, None, inl, inr, refl, arith, list_any, option_map_or, cases_lt, and_parts, or_cases, or_left, or_right, eqb-true, eq-eqb, false≢true, list_any-append, common_steps}
+use Rattle.world_rules.proofs.CoinWords.{Owner, RootCall, CoinView, coin_at, Bundle, coin_at-grown, greatest}
+use Rattle.world_rules.proofs.WorldWords.{Event, log_of, wallet_owner, accepted, is_bundle, was_deposited, holds, ever_held, own_deposit_of, possible_tips, held_tip}
 
 -- ---- the greatest of some numbers that pass a test
 
@@ -25,8 +12,7 @@ has e xs = list_any (λ x. x == e) xs
 has-filter : (p : ℕ → Bool) (e : ℕ) (xs : List ℕ) → has e xs ≡ true → p e ≡ true → has e (filter p xs) ≡ true
 has-filter p e [] is passes = is
 has-filter p e (x ∷ xs) is passes = elim (or_cases (x == e) (has e xs) is) [
-  | inl here ↦
-      grind (arith, common_steps, eqb-true, or_left)
+  | inl here ↦ grind (arith, common_steps, eqb-true, or_left)
   | inr later ↦ kept (p x) (has-filter p e xs later passes)
 ]
   where
@@ -88,7 +74,7 @@ pub coin-stays : (event : Event) (events : List Event) (c : ℕ) (made : CoinVie
 unfolding log_of
 coin-stays event events c made is = grind (arith, common_steps, coin_at-grown)
 
-accepted-stay : (event : Event) (events : List Event) (w c e : ℕ)
+pub accepted-stay : (event : Event) (events : List Event) (w c e : ℕ)
     → list_any (is_bundle c e) (accepted events w) ≡ true
     → list_any (is_bundle c e) (accepted (event ∷ events) w) ≡ true
 unfolding accepted
@@ -102,7 +88,7 @@ pub record IsTip (events : List Event) (w c e : ℕ) : Type 0 where
   pub owner : wallet_owner events w ≡ Some me
   pub at : (was_deposited me e (coin_at (log_of events) c) || list_any (is_bundle c e) (accepted events w)) ≡ true
 
-deposited-stays : (event : Event) (events : List Event) (me : Owner) (c e : ℕ)
+pub deposited-stays : (event : Event) (events : List Event) (me : Owner) (c e : ℕ)
     → was_deposited me e (coin_at (log_of events) c) ≡ true
     → was_deposited me e (coin_at (log_of (event ∷ events)) c) ≡ true
 deposited-stays event events me c e is = grind (arith, common_steps, false≢true, coin-stays)
@@ -140,8 +126,7 @@ taken-has : (c e : ℕ) (bundles : List Bundle) → list_any (is_bundle c e) bun
 taken-has c e [] is = is
 taken-has c e (bundle ∷ bundles) is =
     elim (or_cases (is_bundle c e bundle) (list_any (is_bundle c e) bundles) is) [
-      | inl here ↦
-          grind (arith, common_steps, and_parts, or_left)
+      | inl here ↦ grind (arith, common_steps, and_parts, or_left)
       | inr later ↦ more (bundle.coin == c) (taken-has c e bundles later)
     ]
   where

@@ -1,18 +1,12 @@
 -- The operator's openings are bytes.
-use Rattle.std.proofs.Common.{ℕ, zero, suc, List, [], ◌∷◌, ◌++◌, map, filter, length, arith}
-use Rattle.std.specs.Prelude.{slice_index_or, not}
-use Rattle.std.specs.List.{AllByRecursion, concat, range_with_len}
-use Rattle.std.proofs.lemmas.Grind.{common_steps}
-use Rattle.sparse_merkle.specs.declared.tree.Entry.{Entry}
+use Rattle.world_rules.proofs.Basics.{ℕ, zero, suc, List, [], ◌∷◌, ◌++◌, map, filter, length, arith, slice_index_or, not, AllByRecursion, concat, range_with_len, common_steps}
+use Rattle.world_rules.proofs.CoinWords.{Entry, leaf_of, entry_of, with_leaf, subtree_digest, near_part, far_part, path_below, path_to, all-append, all-filter}
+use Rattle.world_rules.proofs.NodeWords.{Small, small-nil, small-append, small-number, small-short, IsSmallOpening}
+use Rattle.world_rules.proofs.OperatorWords.{opening_in_tree}
+use Rattle.world_rules.proofs.WorldWords.{IsDigest}
 use Rattle.sparse_merkle.specs.MaskedPath.{proof_text}
 use Rattle.sparse_merkle.specs.PathProof.{is_default_at, kept_siblings, proof_of_path}
-use Rattle.sparse_merkle.specs.TreeDigest.{leaf_of, entry_of, with_leaf, subtree_digest, near_part, far_part, path_below, path_to}
 use Rattle.plasma_tx.specs.Openings.{opening_text}
-use Rattle.plasma_tx.proofs.Each.{all-append, all-filter}
-use Rattle.operator_rules.specs.Trees.{opening_in_tree}
-use Rattle.world_rules.specs.Laws.{IsDigest}
-use Rattle.node_replies.proofs.ByteTexts.{Small, small-nil, small-append, small-number, small-short}
-use Rattle.node_replies.proofs.BundleTexts.{IsSmallOpening}
 
 -- ---- the operator's trees
 

@@ -1,34 +1,11 @@
 -- What holds of a world besides its nodes behind every act, and what orders may take from such a world.
-use Rattle.std.proofs.Common.{◌≡◌, ℕ, suc, ◌^◌, ◌<◌, ◌≤◌, Bool, true, false, if◌then◌else◌, List, [], ◌∷◌, ◌++◌, length, Option, Some, None, refl, sym, ap, ◌∙◌, subst, arith}
-use Rattle.std.specs.Prelude.{slice_get, find, option_map}
-use Rattle.std.specs.List.{AllByRecursion}
-use Rattle.std.specs.Option.{option_or}
-use Rattle.std.specs.Str.{bytes_eq}
-use Rattle.std.proofs.lemmas.Bool.{and_parts}
-use Rattle.std.proofs.lemmas.Grind.{common_steps}
-use Rattle.line_forms.specs.declared.tokens.HexOrName.{HexOrName}
-use Rattle.line_forms.specs.declared.tokens.TheConstants.{OWNER_BYTES}
-use Rattle.line_forms.specs.Tokens.{IsHexOrName}
-use Rattle.plasma_tx.specs.declared.owner.Owner.{Owner}
-use Rattle.plasma_tx.specs.declared.call.RootCall.{RootCall}
+use Rattle.world_rules.proofs.Basics.{◌≡◌, ℕ, suc, ◌^◌, ◌<◌, ◌≤◌, Bool, true, false, if◌then◌else◌, List, [], ◌∷◌, ◌++◌, length, Option, Some, None, refl, sym, subst, arith, slice_get, find, option_map, AllByRecursion, option_or, bytes_eq, and_parts, common_steps}
+use Rattle.world_rules.proofs.CoinWords.{Owner, RootCall, owner_in, blocks, tests_by, rules_of, answer_to, is_accepted, log_after, all-append, all-found, some_same, owner_in-is}
+use Rattle.world_rules.proofs.NodeWords.{WalletIdentity, owner_of, who, Small, small-nil, small-take, small-drop}
+use Rattle.world_rules.proofs.WorldWords.{HexOrName, OWNER_BYTES, IsHexOrName, Node, Rogue, World, wallet_of, owner_of_node, owner_of_rogue, is_named, is_wallet_role, rogue_named, owner_named, new_owner_of, Declares, IsOfChain, NewWallet, Act, done}
 use Rattle.plasma_tx.specs.Chain.{Chain}
-use Rattle.plasma_tx.specs.Spelling.{owner_in}
-use Rattle.plasma_tx.specs.Views.{blocks}
-use Rattle.plasma_tx.specs.Shown.{tests_by, rules_of}
-use Rattle.plasma_tx.specs.Table.{answer_to, is_accepted, log_after}
 use Rattle.plasma_tx.specs.RuleLaws.{Shows}
 use Rattle.plasma_tx.proofs.Accepted.{accepted_calls_show}
-use Rattle.plasma_tx.proofs.Each.{all-append, all-found}
-use Rattle.plasma_tx.proofs.Names.{some_same}
-use Rattle.plasma_tx.proofs.Spellings.{owner_in-is}
-use Rattle.node_rules.specs.declared.identity.WalletIdentity.{WalletIdentity}
-use Rattle.node_rules.specs.WalletRecords.{owner_of}
-use Rattle.node_rules.specs.Wallet.{who}
-use Rattle.node_replies.proofs.ByteTexts.{Small, small-nil, small-take, small-drop}
-use Rattle.world_rules.specs.World.{Node, Rogue, World, wallet_of, owner_of_node, owner_of_rogue, is_named, is_wallet_role, rogue_named, owner_named, new_owner_of}
-use Rattle.world_rules.specs.Events.{Declares}
-use Rattle.world_rules.specs.Evidence.{IsOfChain}
-use Rattle.world_rules.specs.Acts.{NewWallet, Act, done}
 use Rattle.world_rules.proofs.OperatorItems.{AreSmallRecords}
 use Rattle.world_rules.proofs.Said.{told, nothing_said}
 use Rattle.world_rules.proofs.KeptWallet.{KeptWallet, records-push}
@@ -155,9 +132,5 @@ pub joined-wallet : (dig : List ℕ → List ℕ) (world : World) → HasFrame w
     → IsOfChain world who → IsFitNew (NewWallet who) → (log : List RootCall) (n : ℕ)
     → KeptWallet dig (told (Declares n (owner_of who)) nothing_said) log (new_wallet who)
 joined-wallet dig world frame who of fit log n =
-    new-wallet-kept dig who (record {
-      tag = ap length of.tag ∙ frame.tag_long;
-      account = fit.0;
-      seed = ap length of.is_seed;
-      types = fit.1;
-    }) log n (subst Small (sym of.tag) frame.tag) (subst Small (sym of.is_seed) (small-padded of.seed))
+    new-wallet-kept dig who (grind (arith, common_steps)) log n (subst Small (sym of.tag) frame.tag)
+    (subst Small (sym of.is_seed) (small-padded of.seed))

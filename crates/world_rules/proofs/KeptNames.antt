@@ -1,14 +1,8 @@
 -- What each line of a run keeps: nodes have names of their own, declared wallets stay with their owners, and accepted
 -- bundles are of coins that the log has.
-use Rattle.std.proofs.Common.{◌≡◌, ℕ, ◌==◌, Bool, true, false, if◌then◌else◌, List, [], ◌∷◌, ◌++◌, length, slice_get, Some, refl, ap, subst, arith}
-use Rattle.std.specs.List.{list_any}
-use Rattle.std.proofs.lemmas.Bool.{eqb-true, or_cases, and_parts, false≢true}
-use Rattle.std.proofs.lemmas.Grind.{common_steps}
-use Rattle.plasma_tx.specs.declared.owner.Owner.{Owner}
-use Rattle.plasma_tx.specs.declared.call.RootCall.{RootCall}
-use Rattle.coin_history.specs.declared.bundle.Bundle.{Bundle}
-use Rattle.world_rules.specs.Events.{Event, Declares, Joins, Accepts, log_of, wallet_owner, accepted, is_bundle}
-use Rattle.world_rules.specs.World.{Wallet}
+use Rattle.world_rules.proofs.Basics.{◌≡◌, ℕ, ◌==◌, Bool, true, false, if◌then◌else◌, List, [], ◌∷◌, ◌++◌, length, slice_get, Some, refl, ap, subst, arith, list_any, eqb-true, or_cases, and_parts, false≢true, common_steps}
+use Rattle.world_rules.proofs.CoinWords.{Owner, RootCall, Bundle}
+use Rattle.world_rules.proofs.WorldWords.{Event, Declares, Joins, Accepts, log_of, wallet_owner, accepted, is_bundle, Wallet}
 use Rattle.world_rules.proofs.HeldTips.{OwnersStay, IsCoin, coin-stays}
 use Rattle.world_rules.proofs.Named.{Card, IsOther, AreDistinct, distinct-push, stays-at, last-at, none-past}
 
@@ -81,13 +75,7 @@ module _ (nodes : List Card) (log : List RootCall) (events : List Event) (kept :
   kept-declares : (name : List ℕ) (me : Owner) → IsOther name nodes
       → Kept (nodes ++ record { name = name; role = Wallet } ∷ []) log (Declares (length nodes) me ∷ events)
   unfolding log_of wallet_owner accepted
-  kept-declares name me other = record {
-    log_is = kept.log_is;
-    distinct = distinct-push nodes (record { name = name; role = Wallet }) kept.distinct other;
-    wallets = λ w who is. at w who (length nodes == w) refl is;
-    stay = (λ w who is. old w who is (length nodes == w) refl, kept.stay);
-    known = kept.known;
-  }
+  kept-declares name me other = grind (arith, common_steps, distinct-push, at, old)
     where
       at : (w : ℕ) (who : Owner) (b : Bool) → (length nodes == w) ≡ b
           → (if b then Some me else wallet_owner events w) ≡ Some who

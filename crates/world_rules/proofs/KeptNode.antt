@@ -1,36 +1,12 @@
 -- What events say of a node is what its records are, and each command keeps it so and makes bytes.
-use Rattle.std.proofs.Common.{◌≡◌, ℕ, ◌^◌, ◌<◌, ◌-◌, ◌==◌, Bool, true, false, if◌then◌else◌, List, [], ◌∷◌, Option, Some, None, refl, sym, ◌∙◌, subst, zero, suc, arith}
-use Rattle.std.specs.Prelude.{Result, IfSome, slice_get, unwrap_or, option_map}
-use Rattle.std.proofs.lemmas.Bool.{false≢true}
-use Rattle.std.proofs.lemmas.Grind.{common_steps}
+use Rattle.world_rules.proofs.Basics.{◌≡◌, ℕ, ◌^◌, ◌<◌, ◌-◌, ◌==◌, Bool, true, false, if◌then◌else◌, List, [], ◌∷◌, Option, Some, None, refl, sym, ◌∙◌, subst, zero, suc, arith, Result, IfSome, slice_get, unwrap_or, option_map, false≢true, common_steps}
+use Rattle.world_rules.proofs.CoinWords.{Owner, RootCall, IsOwner, blocks, some_same}
+use Rattle.world_rules.proofs.NodeWords.{WalletRefusal, WalletEffect, with_more, after, wallet_cause, WalletOrder, WatcherOrder, OperatorOrder, NodeOrder, Response, answered, wallet_doing, with_record, Small, small-nil}
+use Rattle.world_rules.proofs.WorldWords.{HexOrName, OWNER_BYTES, IsHexOrItem, IsHexOrName, Command, WalletCommand, Role, Node, World, wallet_of, is_wallet_role, is_watcher_role, is_operator_role, bytes_of, new_owner_of, Deed, as_deed, order_of, with_records}
 use Rattle.line_forms.specs.declared.tokens.HexOrItem.{HexOrItem}
-use Rattle.line_forms.specs.declared.tokens.HexOrName.{HexOrName}
-use Rattle.line_forms.specs.declared.tokens.TheConstants.{OWNER_BYTES}
-use Rattle.line_forms.specs.Tokens.{IsHexOrItem, IsHexOrName}
-use Rattle.plasma_tx.specs.declared.owner.Owner.{Owner}
-use Rattle.plasma_tx.specs.declared.call.RootCall.{RootCall}
-use Rattle.plasma_tx.specs.Spelling.{IsOwner}
-use Rattle.plasma_tx.specs.Views.{blocks}
-use Rattle.schedule_text.specs.declared.command.Command.{Command}
-use Rattle.schedule_text.specs.declared.command.WalletCommand.{WalletCommand}
 use Rattle.schedule_text.specs.declared.command.WatcherCommand.{WatcherCommand}
 use Rattle.schedule_text.specs.declared.command.OperatorCommand.{OperatorCommand}
-use Rattle.node_rules.specs.declared.refusal.WalletRefusal.{WalletRefusal}
-use Rattle.node_rules.specs.Wallet.{WalletEffect}
-use Rattle.node_rules.specs.WalletCommandLaws.{with_more, after}
-use Rattle.node_replies.specs.Causes.{wallet_cause}
-use Rattle.world_rules.specs.World.{Role, Node, World, wallet_of, is_wallet_role, is_watcher_role, is_operator_role, bytes_of, new_owner_of}
-use Rattle.world_rules.specs.Deeds.{Deed, as_deed}
-use Rattle.node_replies.specs.declared.order.WalletOrder.{WalletOrder}
-use Rattle.node_replies.specs.declared.order.WatcherOrder.{WatcherOrder}
-use Rattle.node_replies.specs.declared.order.OperatorOrder.{OperatorOrder}
-use Rattle.node_replies.specs.declared.order.NodeOrder.{NodeOrder}
-use Rattle.world_rules.specs.Orders.{order_of}
 use Rattle.world_rules.proofs.OrderEnds.{wallet_told}
-use Rattle.plasma_tx.proofs.Names.{some_same}
-use Rattle.node_replies.specs.Orders.{Response, answered, wallet_doing, with_record}
-use Rattle.world_rules.specs.Steps.{with_records}
-use Rattle.node_replies.proofs.ByteTexts.{Small, small-nil}
 use Rattle.world_rules.proofs.OperatorItems.{AreSmallRecords}
 use Rattle.world_rules.proofs.Said.{Said, told}
 use Rattle.world_rules.proofs.KeptWallet.{KeptWallet, records-push}

@@ -1,18 +1,9 @@
 -- Over every run of lines in the grammar, what events say of wallets and watchers is what their disks keep.
-use Rattle.std.proofs.Common.{◌≡◌, ℕ, zero, suc, ◌^◌, ◌<◌, List, [], ◌∷◌, Some, None, refl, ◌∙◌, lit<, arith}
-use Rattle.std.specs.Prelude.{slice_get}
-use Rattle.std.specs.List.{All}
-use Rattle.std.proofs.lemmas.Bool.{false≢true}
-use Rattle.std.proofs.lemmas.Grind.{common_steps}
-use Rattle.plasma_tx.proofs.Names.{some_same}
-use Rattle.schedule_text.specs.declared.line.Line.{Line}
-use Rattle.schedule_text.specs.Grammar.{IsLine}
-use Rattle.operator_rules.specs.Records.{identity_text as operator_text}
-use Rattle.node_replies.proofs.ByteTexts.{Small, small-nil, small-cons, small-append, small-number}
-use Rattle.world_rules.specs.Events.{Idle, log_of}
-use Rattle.world_rules.specs.World.{Node, World, padded}
-use Rattle.world_rules.specs.Steps.{new_chain, operator_node, Run, run_of, events_of}
-use Rattle.world_rules.specs.Laws.{IsDigest, WalletsKeepWhatEventsSay, WatchersKeepWhatEventsSay}
+use Rattle.world_rules.proofs.Basics.{◌≡◌, ℕ, zero, suc, ◌^◌, ◌<◌, List, [], ◌∷◌, Some, None, refl, ◌∙◌, lit<, arith, slice_get, All, false≢true, common_steps}
+use Rattle.world_rules.proofs.CoinWords.{some_same}
+use Rattle.world_rules.proofs.NodeWords.{Small, small-nil, small-cons, small-append, small-number}
+use Rattle.world_rules.proofs.OperatorWords.{operator_text}
+use Rattle.world_rules.proofs.WorldWords.{Line, IsLine, Idle, log_of, Node, World, padded, new_chain, operator_node, Run, run_of, events_of, IsDigest, WalletsKeepWhatEventsSay, WatchersKeepWhatEventsSay}
 use Rattle.world_rules.proofs.Said.{said, said-other, said-none}
 use Rattle.world_rules.proofs.HeldSame.{are_kept}
 use Rattle.world_rules.proofs.NewNodes.{small-padded}

@@ -1,24 +1,11 @@
 -- What events say of a wallet and what its records are, and that an accept keeps them one.
-use Rattle.std.proofs.Common.{◌≡◌, ℕ, ◌==◌, Bool, true, List, [], ◌∷◌, ◌++◌, map, Some, refl, arith}
-use Rattle.std.specs.Prelude.{reverse}
-use Rattle.std.specs.List.{list_any}
-use Rattle.std.proofs.lemmas.Grind.{common_steps}
-use Rattle.leaf_journal.specs.Records.{messages_of}
-use Rattle.plasma_tx.specs.declared.owner.Owner.{Owner}
-use Rattle.plasma_tx.specs.declared.call.RootCall.{RootCall}
-use Rattle.plasma_tx.specs.Spelling.{IsOwner}
-use Rattle.coin_history.proofs.HistoryGrow.{coin_at-grown}
-use Rattle.wallet_core.specs.declared.notes.Notes.{Notes}
-use Rattle.wallet_core.specs.State.{is_noted}
-use Rattle.node_rules.specs.WalletRecords.{Note, Accepts as AcceptsNote, who_is, owner_of, state_notes, leaves_in, LeavesWith, Reclaims}
-use Rattle.node_rules.specs.Wallet.{WalletRecords, who, noted}
-use Rattle.node_rules.specs.WalletOpening.{is_wallet}
-use Rattle.world_rules.specs.Events.{is_taken, is_bundle}
-use Rattle.node_replies.proofs.ByteTexts.{Small}
+use Rattle.world_rules.proofs.Basics.{◌≡◌, ℕ, ◌==◌, Bool, true, List, [], ◌∷◌, ◌++◌, map, Some, refl, arith, reverse, list_any, common_steps}
+use Rattle.world_rules.proofs.CoinWords.{Owner, RootCall, IsOwner, coin_at-grown, Notes, is_noted, all-append}
+use Rattle.world_rules.proofs.NodeWords.{messages_of, Note, AcceptsNote, who_is, owner_of, state_notes, leaves_in, LeavesWith, Reclaims, WalletRecords, who, noted, is_wallet, Small}
+use Rattle.world_rules.proofs.WorldWords.{is_taken, is_bundle}
 use Rattle.world_rules.proofs.OperatorItems.{AreSmallRecords}
 use Rattle.world_rules.proofs.Said.{Said}
 use Rattle.world_rules.proofs.Handed.{IsKnownCoin}
-use Rattle.plasma_tx.proofs.Each.{all-append}
 
 -- what is said of a wallet is what its records are; the records are a wallet's, and bytes
 pub record KeptWallet (dig : List ℕ → List ℕ) (s : Said) (log : List RootCall) (wallet : WalletRecords)

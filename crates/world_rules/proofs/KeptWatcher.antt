@@ -1,33 +1,16 @@
 -- What events say of a watcher's guards is what its records say, and a guard and a release keep it so.
-use Rattle.std.proofs.Common.{◌≡◌, ℕ, ◌^◌, ◌<◌, ◌==◌, ◌&&◌, ◌||◌, not, Bool, true, false, if◌then◌else◌, List, [], ◌∷◌, ◌++◌, filter, Option, Some, None, Ok, Err, refl, sym, ap, ◌∙◌, subst, lit<, arith}
-use Rattle.std.specs.Prelude.{Result, IfSome}
-use Rattle.std.specs.List.{list_any}
-use Rattle.std.proofs.lemmas.Bool.{eqb-true, eq-eqb, and_parts, and_from, false≢true}
-use Rattle.std.proofs.lemmas.List.Folds.{list_any-append}
-use Rattle.std.proofs.lemmas.Grind.{common_steps}
-use Rattle.node_journal.specs.Effect.{Effect, first_cause, unless, only}
+use Rattle.world_rules.proofs.Basics.{◌≡◌, ℕ, ◌^◌, ◌<◌, ◌==◌, ◌&&◌, ◌||◌, not, Bool, true, false, if◌then◌else◌, List, [], ◌∷◌, ◌++◌, filter, Option, Some, None, Ok, Err, refl, sym, ap, ◌∙◌, subst, lit<, arith, Result, IfSome, list_any, eqb-true, eq-eqb, and_parts, and_from, false≢true, list_any-append, common_steps}
+use Rattle.world_rules.proofs.CoinWords.{Links, RootCall, tip_of, Bundle, HistoryRefusal, AreBytes}
+use Rattle.world_rules.proofs.NodeWords.{Effect, first_cause, unless, only, Accepted, WatcherRefusal, kept_of, links_handed, Guarded, Released, watcher_kinds, is_of, is_before, with_guard, guards_of, guards_in, guard_causes, guard_by, guard_effect, release_effect, KeepsRole, AddsGuard, WatcherOrder, with_record, on_guarded, on_released, Small, small-nil}
+use Rattle.world_rules.proofs.WorldWords.{Guards, Releases, is_bundle, bundle_read, event_of}
 use Rattle.node_journal.specs.Role.{are_of}
-use Rattle.plasma_tx.specs.declared.links.Links.{Links}
-use Rattle.plasma_tx.specs.declared.call.RootCall.{RootCall}
-use Rattle.plasma_tx.specs.Links.{tip_of}
-use Rattle.coin_history.specs.declared.bundle.Bundle.{Bundle}
-use Rattle.coin_history.specs.declared.refusal.HistoryRefusal.{HistoryRefusal}
-use Rattle.node_rules.specs.declared.answers.Accepted.{Accepted}
-use Rattle.node_rules.specs.declared.refusal.WatcherRefusal.{WatcherRefusal}
 use Rattle.node_rules.specs.declared.refusal.WatcherRefusal.TheVariants.{History, NoGuard}
-use Rattle.node_rules.specs.Kept.{kept_of, links_handed}
-use Rattle.node_rules.specs.Watcher.{Guarded, Released, note_text, watcher_kinds, who_is, is_of, is_before, with_guard, guards_of, guards_in, guard_causes, guard_by, guard_effect, release_effect}
-use Rattle.node_rules.specs.WatcherLaws.{KeepsRole, AddsNote, AddsGuard}
+use Rattle.node_rules.specs.Watcher.{note_text, who_is}
+use Rattle.node_rules.specs.WatcherLaws.{AddsNote}
 use Rattle.node_rules.proofs.WatcherRole.{commands_keep_the_role, commands_add_their_notes}
-use Rattle.world_rules.specs.Events.{Guards, Releases, is_bundle}
-use Rattle.node_replies.specs.declared.order.WatcherOrder.{WatcherOrder}
 use Rattle.world_rules.proofs.OrderEnds.{watcher_told}
-use Rattle.world_rules.specs.OrderEvents.{bundle_read, event_of}
-use Rattle.node_replies.specs.Orders.{with_record, on_guarded, on_released}
-use Rattle.node_replies.proofs.ByteTexts.{Small, small-nil}
 use Rattle.world_rules.proofs.Said.{Said, told}
 use Rattle.world_rules.proofs.Handed.{IsHanded, is_handed}
-use Rattle.plasma_tx.specs.Spelling.{AreBytes}
 
 -- what is said of a watcher is what its records are; they are a watcher's
 pub record KeptWatcher (dig : List ℕ → List ℕ) (s : Said) (records : List (List ℕ)) : Type 0 where
@@ -118,11 +101,11 @@ any-released a t c e one other same = at ((a == c) && (t == e)) refl
 
 -- ---- commands
 
-abbrev taken_of : Links → Accepted
+abbrev pub taken_of : Links → Accepted
 taken_of links = record { coin = links.coin; tip = tip_of links }
 
 -- a guard is refused, or its links are guarded already, or are noted
-data GuardEnds (dig : List ℕ → List ℕ) (records : List (List ℕ)) (log : List RootCall) (bytes : List ℕ)
+pub data GuardEnds (dig : List ℕ → List ℕ) (records : List (List ℕ)) (log : List RootCall) (bytes : List ℕ)
     (effect : Effect (Result Accepted WatcherRefusal)) : Type 0 where
   Refused : (why : WatcherRefusal) → effect ≡ only (Err why) → GuardEnds dig records log bytes effect
   Known : (links : Links) → links_handed dig (who_is records).tag log bytes ≡ Ok links
@@ -132,7 +115,7 @@ data GuardEnds (dig : List ℕ → List ℕ) (records : List (List ℕ)) (log : 
       → effect ≡ record { answer = Ok (taken_of links); note = Some (note_text (Guarded (kept_of links))) }
       → GuardEnds dig records log bytes effect
 
-guard_ends : (dig : List ℕ → List ℕ) (records : List (List ℕ)) (log : List RootCall) (bytes : List ℕ)
+pub guard_ends : (dig : List ℕ → List ℕ) (records : List (List ℕ)) (log : List RootCall) (bytes : List ℕ)
     → GuardEnds dig records log bytes (guard_effect dig records log bytes)
 unfolding guard_effect
 guard_ends dig records log bytes = at (links_handed dig (who_is records).tag log bytes) refl

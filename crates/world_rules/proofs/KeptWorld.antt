@@ -1,22 +1,9 @@
 -- What holds of a world behind the events of its lines, and each act that fits keeps it and makes bytes.
-use Rattle.std.proofs.Common.{◌≡◌, ℕ, ◌^◌, ◌<◌, Bool, true, false, if◌then◌else◌, List, [], ◌∷◌, length, Option, Some, None, refl, sym, ap, ◌∙◌, subst, arith}
-use Rattle.std.specs.Prelude.{slice_get}
-use Rattle.std.proofs.lemmas.Bool.{eq-eqb, false≢true}
-use Rattle.std.proofs.lemmas.Grind.{common_steps}
-use Rattle.plasma_tx.specs.declared.call.RootCall.{RootCall}
-use Rattle.plasma_tx.specs.Spelling.{body_text}
-use Rattle.plasma_tx.specs.Views.{blocks}
-use Rattle.node_rules.specs.Watcher.{WatcherIdentity, identity_text as watcher_text}
-use Rattle.node_rules.specs.WalletRecords.{owner_of, identity_text as wallet_text}
-use Rattle.node_replies.specs.declared.order.NodeOrder.{NodeOrder}
-use Rattle.node_replies.proofs.ByteTexts.{Small, small-nil, small-append, small-body, small-signature}
-use Rattle.world_rules.specs.Events.{Event, Declares, Idle, log_of}
-use Rattle.world_rules.specs.World.{Wallet, Watcher, Node, World, wallet_of}
-use Rattle.world_rules.specs.Deeds.{Deed}
-use Rattle.world_rules.specs.Steps.{new_node, after_crash}
-use Rattle.world_rules.specs.Laws.{IsDigest}
-use Rattle.world_rules.specs.Acts.{Place, NewWallet, NewWatcher, NewRogue, Act, Signs, Adds, Orders, Crashes, End, end_of, is_stopped, node_after, deed_at, done}
-use Rattle.world_rules.specs.Evidence.{MayOrder, IsActIn}
+use Rattle.world_rules.proofs.Basics.{◌≡◌, ℕ, ◌^◌, ◌<◌, Bool, true, false, if◌then◌else◌, List, [], ◌∷◌, length, Option, Some, None, refl, sym, ◌∙◌, subst, arith, slice_get, eq-eqb, false≢true, common_steps}
+use Rattle.world_rules.proofs.CoinWords.{RootCall, body_text, blocks}
+use Rattle.world_rules.proofs.NodeWords.{WatcherIdentity, watcher_text, owner_of, wallet_text, NodeOrder, Small, small-nil, small-append, small-body, small-signature}
+use Rattle.world_rules.proofs.WorldWords.{Event, Declares, Idle, log_of, Wallet, Watcher, Node, World, wallet_of, Deed, new_node, after_crash, IsDigest, Place, NewWallet, NewWatcher, NewRogue, Act, Signs, Adds, Orders, Crashes, End, end_of, node_after, deed_at, done, MayOrder, IsActIn}
+use Rattle.world_rules.specs.Acts.{is_stopped}
 use Rattle.world_rules.proofs.Said.{Said, said, nothing_said, told, said-own, said-other}
 use Rattle.world_rules.proofs.KeptWallet.{wallet-longer}
 use Rattle.world_rules.proofs.KeptNode.{KeptNode, Feeds, IsFitOrder, IsKeptDeed}
@@ -50,8 +37,7 @@ module _ (dig : List ℕ → List ℕ) (events : List Event) (world : World) (ke
 
   pub world-feeds : Feeds world
   unfolding owner_of
-  world-feeds =
-      frame-feeds world kept.frame (λ n node at role. ((kept.nodes n node at).wallet role).is_owner.account)
+  world-feeds = frame-feeds world kept.frame (λ n node at role. ((kept.nodes n node at).wallet role).is_owner.account)
 
 -- ---- one node
 
@@ -117,8 +103,7 @@ module _ (dig : List ℕ → List ℕ) (is_digest : IsDigest dig) (events : List
   own (Adds name (NewWallet who)) known fit = λ fresh.
       let me = Declares (length world.nodes) (owner_of who) in
       subst (λ (s : Said). KeptNode dig s world.chain.log (new_node Wallet name who.account (wallet_text who)))
-      (sym (said-own me events (length world.nodes) (eq-eqb (length world.nodes) (length world.nodes) refl)
-      ∙ ap (told me) fresh))
+      (grind (arith, common_steps, said-own, eq-eqb, told))
       (record {
         wallet = λ role.
             joined-wallet dig world kept.frame who known.0 fit world.chain.log (length world.nodes);

@@ -1,3 +1,8 @@
+pub mod Basics
+pub mod CoinWords
+pub mod NodeWords
+pub mod OperatorWords
+pub mod WorldWords
 pub mod OrderEnds
 pub mod StepLaws
 pub mod Existence

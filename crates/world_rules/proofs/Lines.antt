@@ -1,33 +1,10 @@
 -- What each line is: an act exactly where it keeps the rules of declarations. What is known of that act, of which line
 -- it is, and that the line does what the act does. This file alone goes through all kinds of line.
-use Rattle.std.proofs.Common.{◌≡◌, ℕ, ◌&&◌, not, Bool, true, false, if◌then◌else◌, List, Option, Some, None, is_some, inl, inr, refl, sym, ap, ◌∙◌, subst, arith}
-use Rattle.std.specs.Prelude.{option_map, option_and_then, nat_lt}
-use Rattle.std.specs.Str.{bytes_eq}
-use Rattle.std.proofs.lemmas.Bool.{not-true, ltb-true, false≢true}
-use Rattle.std.proofs.lemmas.Grind.{common_steps}
-use Rattle.line_forms.specs.declared.tokens.OutcomeToken.{OutcomeToken}
-use Rattle.line_forms.specs.declared.tokens.HexOrName.{HexOrName}
-use Rattle.line_forms.proofs.FormLaws.{option_map_some}
-use Rattle.gate_journal.specs.Laws.{is_added}
-use Rattle.lms_sign.specs.Types.{leaf_count}
-use Rattle.lms_sign.specs.declared.types.LmsTypes.{LmsTypes}
-use Rattle.plasma_tx.specs.declared.owner.Owner.{Owner}
-use Rattle.plasma_tx.proofs.Names.{some_same}
-use Rattle.schedule_text.specs.declared.line.Line.{Line}
+use Rattle.world_rules.proofs.Basics.{◌≡◌, ℕ, ◌&&◌, not, Bool, true, false, if◌then◌else◌, List, Option, Some, None, is_some, inl, inr, refl, sym, ap, ◌∙◌, subst, arith, option_map, option_and_then, nat_lt, bytes_eq, not-true, ltb-true, false≢true, common_steps}
+use Rattle.world_rules.proofs.CoinWords.{leaf_count, LmsTypes, Owner, some_same}
+use Rattle.world_rules.proofs.NodeWords.{is_added, WalletIdentity, Reply, NodeOrder}
+use Rattle.world_rules.proofs.WorldWords.{OutcomeToken, HexOrName, option_map_some, Line, Command, node_of, Role, Node, Rogue, World, is_wallet_role, any_role, rogue_named, new_owner_of, owner_of_node, call_of, plays, is_declared, has_declared_names, has_leaf_number, declared_wallet, is_wallet_account, keeps_rules, keeps_rules_in, order_of, Deed, adds_record, deed_of, LineEffect, deposit_by, offer_numbered, entered, is_opening, answers_down, down, outcome_of, finished, cut, act_at, act_on, command_effect, cut_effect, signed_body, effect_in, effect_of, with_mail, step, IsCommandIn, LinesThatKeepTheRulesStep, Place, NewWallet, NewWatcher, NewRogue, Deposits, Raw, Cut, Act, Rests, Signs, Adds, Enters, Orders, Crashes, only_where, place_named, opens, is_down_for, order_act, command_act, offer_act, act_of, Crashed, Kept, Lost, needs_more, end_of, end_effect, deed_at, done, IsThere, has_order, IsActIn}
 use Rattle.schedule_text.specs.declared.call_form.CallForm.{CallForm}
-use Rattle.schedule_text.specs.declared.command.Command.{Command}
-use Rattle.schedule_text.specs.Grammar.{node_of}
-use Rattle.node_rules.specs.declared.identity.WalletIdentity.{WalletIdentity}
-use Rattle.node_replies.specs.declared.reply.Reply.{Reply}
-use Rattle.node_replies.specs.declared.order.NodeOrder.{NodeOrder}
-use Rattle.world_rules.specs.World.{Role, Node, Rogue, World, is_wallet_role, any_role, rogue_named, new_owner_of, owner_of_node, call_of}
-use Rattle.world_rules.specs.Declarations.{plays, is_declared, has_declared_names, has_leaf_number, declared_wallet, is_wallet_account, keeps_rules, keeps_rules_in}
-use Rattle.world_rules.specs.Orders.{order_of}
-use Rattle.world_rules.specs.Deeds.{Deed, adds_record, deed_of}
-use Rattle.world_rules.specs.Steps.{LineEffect, deposit_by, offer_numbered, entered, is_opening, answers_down, down, outcome_of, finished, cut, act_at, act_on, command_effect, cut_effect, signed_body, effect_in, effect_of, with_mail, step}
-use Rattle.world_rules.specs.Laws.{IsCommandIn, LinesThatKeepTheRulesStep}
-use Rattle.world_rules.specs.Acts.{Place, NewWallet, NewWatcher, NewRogue, Deposits, Raw, Cut, Act, Rests, Signs, Adds, Enters, Orders, Crashes, only_where, place_named, opens, is_down_for, order_act, command_act, offer_act, act_of, Crashed, Kept, Lost, needs_more, end_of, end_effect, deed_at, done}
-use Rattle.world_rules.specs.Evidence.{IsThere, has_order, IsActIn}
 use Rattle.world_rules.specs.ActLaws.{ActsKeepTheRules, EffectsAreOfActs, StepsAreOfActs, ActsAreKnown}
 use Rattle.world_rules.proofs.OrderEnds.{IsOrderAt, order-role}
 use Rattle.world_rules.proofs.Lookups.{is_some-where, is_some-rule, is_some-map, is_some-named, is_some-order, where-some, ruled, IsFound, found, owner-is, IsUnderstood, understood, signed}
@@ -98,8 +75,7 @@ module _ (world : World) where
   rule (Line.Wallet name account seed types) =
       is_some-rule (keeps_rules_in world (Line.Wallet name account seed types)) _
   rule (Line.Watcher name account) = is_some-rule (keeps_rules_in world (Line.Watcher name account)) _
-  rule (Line.Rogue name account seed types) =
-      is_some-rule (keeps_rules_in world (Line.Rogue name account seed types)) _
+  rule (Line.Rogue name account seed types) = is_some-rule (keeps_rules_in world (Line.Rogue name account seed types)) _
   rule (Line.Fund account amount) = refl
   rule (Line.Tick time) = refl
   rule (Line.Money account) = refl
@@ -182,10 +158,7 @@ module _ (world : World) where
         cut-done : cut_effect dig world calls outcome command place.number node
             ≡ Some (done dig world (order_act (Some the_cut) place order))
         unfolding done
-        cut-done =
-            given-effect (cut world place.number node calls outcome command)
-            ∙ ap (λ (e : LineEffect). if is_down_for order node then Some (down world) else Some e) cut-ends
-            ∙ by (is_down_for order node)
+        cut-done = grind (arith, common_steps, given-effect, cut-ends, by)
           where
             by : (b : Bool)
                 → (if b then Some (down world)
@@ -282,9 +255,7 @@ module _ (world : World) where
       let same = where-some (bytes_eq (node_of command) node) (command_act world (Some cut) command) act is in
       let one = understood world (Some cut) command act same.1 in
       command-is (Line.Cut node calls outcome command) (Some cut) command act (inr (node, calls, outcome, refl)) one
-      (λ dig.
-      acted dig (plays command) (node_of command) one.place one.at (cut_effect dig world calls outcome command)
-      ∙ cut-done dig command one.place one.order one.order_is calls outcome)
+      (grind (arith, common_steps, acted, cut-done))
 
   module _ (dig : List ℕ → List ℕ) where
     -- the step of the line, by whether it has an act

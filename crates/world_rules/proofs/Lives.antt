@@ -1,18 +1,8 @@
 -- Induction over the lines of a run, once: each line that it did was an act.
-use Rattle.std.proofs.Common.{◌≡◌, ℕ, List, [], ◌∷◌, Option, Some, None, refl, sym, subst, arith}
-use Rattle.std.specs.List.{All}
-use Rattle.std.proofs.lemmas.List.Elements.{All-head, All-tail}
-use Rattle.std.proofs.lemmas.Grind.{common_steps}
-use Rattle.line_forms.proofs.FormLaws.{and_then_some, option_map_some}
-use Rattle.plasma_tx.proofs.Names.{some_same}
-use Rattle.schedule_text.specs.declared.line.Line.{Line}
-use Rattle.world_rules.specs.World.{World}
-use Rattle.world_rules.specs.Declarations.{keeps_rules}
-use Rattle.node_replies.specs.declared.reply.Reply.{Reply}
-use Rattle.world_rules.specs.Events.{Idle}
-use Rattle.world_rules.specs.Steps.{LineEffect, says, new_chain, new_world, effect_of, with_mail, step, TraceEntry, entry_of, Run, no_lines, with_line, step_run, run_of}
-use Rattle.world_rules.specs.Acts.{Act, act_of, done}
-use Rattle.world_rules.specs.Evidence.{IsActIn}
+use Rattle.world_rules.proofs.Basics.{◌≡◌, ℕ, List, [], ◌∷◌, Option, Some, None, refl, sym, subst, arith, All, All-head, All-tail, common_steps}
+use Rattle.world_rules.proofs.CoinWords.{some_same}
+use Rattle.world_rules.proofs.NodeWords.{Reply}
+use Rattle.world_rules.proofs.WorldWords.{and_then_some, option_map_some, Line, World, keeps_rules, Idle, LineEffect, says, new_chain, new_world, effect_of, with_mail, step, TraceEntry, entry_of, Run, no_lines, with_line, step_run, run_of, Act, act_of, done, IsActIn}
 use Rattle.world_rules.proofs.Lines.{acts_are_known}
 use Rattle.world_rules.proofs.Lines.{steps_are_of_acts}
 
@@ -112,5 +102,4 @@ pub runs_keep : (dig : List ℕ → List ℕ) (IsGood : Line → Type 0) (P : Li
     → P run.entries world
     → P (entry_of line (line_effect dig world act) ∷ run.entries) (line_effect dig world act).world)
     → (lines : List Line) (run : Run) (world : World) → HasCome dig IsGood lines run world → P run.entries world
-runs_keep dig IsGood P first next =
-    good_runs_keep dig IsGood P (λ tag operator most good. first tag operator most) next
+runs_keep dig IsGood P first next = good_runs_keep dig IsGood P (λ tag operator most good. first tag operator most) next

@@ -1,28 +1,9 @@
 -- What the act of a line shows of the names, places and tokens in it.
-use Rattle.std.proofs.Common.{◌≡◌, ℕ, ◌&&◌, Bool, true, List, Option, Some, None, is_some, inl, inr, sym, ap, ◌∙◌, arith}
-use Rattle.std.specs.Prelude.{option_map, option_and_then, nat_lt}
-use Rattle.std.specs.Str.{bytes_eq}
-use Rattle.std.proofs.lemmas.Bool.{and_parts}
-use Rattle.std.proofs.lemmas.List.Folds.{find_at}
-use Rattle.std.proofs.lemmas.Grind.{common_steps}
-use Rattle.line_forms.specs.declared.tokens.HexOrName.{HexOrName}
-use Rattle.line_forms.proofs.FormLaws.{and_then_some, option_map_some}
-use Rattle.lms_sign.specs.Types.{leaf_count}
-use Rattle.plasma_tx.specs.declared.owner.Owner.{Owner}
-use Rattle.plasma_tx.proofs.Names.{some_same}
-use Rattle.schedule_text.specs.declared.line.Line.{Line}
-use Rattle.schedule_text.specs.declared.command.Command.{Command}
-use Rattle.schedule_text.specs.declared.command.WalletCommand.{WalletCommand}
-use Rattle.schedule_text.specs.Grammar.{node_of}
-use Rattle.node_replies.specs.declared.order.NodeOrder.{NodeOrder}
-use Rattle.world_rules.specs.World.{Role, Node, Rogue, World, is_named, is_wallet_role, number_of, rogue_named, owner_of_node, owner_named, new_owner_of}
-use Rattle.world_rules.specs.Declarations.{plays, is_declared, is_sendable, has_declared_names}
-use Rattle.world_rules.specs.Orders.{wallet_order, order_of}
-use Rattle.world_rules.specs.Steps.{cut, outcome_of, signed_body}
-use Rattle.world_rules.specs.Laws.{IsCommandIn}
+use Rattle.world_rules.proofs.Basics.{◌≡◌, ℕ, ◌&&◌, Bool, true, List, Option, Some, None, is_some, inl, inr, sym, ap, ◌∙◌, arith, option_map, nat_lt, and_parts, find_at, common_steps}
+use Rattle.world_rules.proofs.CoinWords.{leaf_count, Owner, some_same}
+use Rattle.world_rules.proofs.NodeWords.{NodeOrder}
+use Rattle.world_rules.proofs.WorldWords.{HexOrName, and_then_some, option_map_some, Line, Command, WalletCommand, node_of, Role, Rogue, World, is_named, is_wallet_role, number_of, rogue_named, owner_of_node, owner_named, new_owner_of, plays, is_declared, is_sendable, has_declared_names, wallet_order, order_of, cut, outcome_of, signed_body, IsCommandIn, Place, Cut, Act, Signs, only_where, place_named, order_act, command_act, act_of, IsThere}
 use Rattle.world_rules.proofs.Existence.{position-is, position-parts}
-use Rattle.world_rules.specs.Acts.{Place, Cut, Act, Signs, only_where, place_at, place_named, order_act, command_act, act_of}
-use Rattle.world_rules.specs.Evidence.{IsThere}
 
 -- ---- options
 
@@ -59,8 +40,7 @@ module _ (world : World) where
       let at = position-is (is_named may name) world.nodes n number in
       let place : Place = record { number = n; node = at.0 } in (
         place,
-        ap (option_and_then (place_at world)) number
-            ∙ ap (option_map (λ (node : Node). let found : Place = record { number = n; node = node } in found)) at.1,
+        grind (arith, common_steps),
         record { number = number; there = at.1; role = (and_parts _ (may at.0.role) at.2).1 },
       )
 
@@ -121,9 +101,7 @@ module _ (world : World) where
   understood-in line command act is (inr in_cut) =
       let cut : Cut = record { calls = in_cut.1; outcome = outcome_of in_cut.2 } in (
         Some cut,
-        understood (Some cut) command act
-            (where-some (bytes_eq (node_of command) in_cut.0) (command_act world (Some cut) command) act
-            (ap (act_of world) (sym in_cut.3) ∙ is)).1,
+        grind (arith, common_steps, understood, where-some),
       )
 
   -- what the act of a line that signs shows

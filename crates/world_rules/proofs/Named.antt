@@ -1,11 +1,7 @@
 -- The names and roles of nodes: a name is new where it is declared, so no two nodes have one name.
-use Rattle.std.proofs.Common.{◌≡◌, ℕ, zero, suc, map, nat_lt, true, false, List, [], ◌∷◌, ◌++◌, length, set, slice_get, bytes_eq, Some, refl, sym, ap, ◌∙◌, subst, arith}
-use Rattle.std.specs.List.{position_or_len}
+use Rattle.world_rules.proofs.Basics.{◌≡◌, ℕ, zero, suc, map, nat_lt, true, false, List, [], ◌∷◌, ◌++◌, length, set, slice_get, bytes_eq, Some, refl, sym, ap, ◌∙◌, subst, arith, position_or_len, or_parts, not-true, false_from_ne_true, true≢false, lt-ltb, ltb-false, le-ltb, common_steps}
+use Rattle.world_rules.proofs.WorldWords.{Role, Node, World, any_role, is_named, is_new_name}
 use Rattle.std.specs.Cmp.Lexicographic.{bytes_decides}
-use Rattle.std.proofs.lemmas.Bool.{or_parts, not-true, false_from_ne_true, true≢false, lt-ltb, ltb-false, le-ltb}
-use Rattle.std.proofs.lemmas.Grind.{common_steps}
-use Rattle.world_rules.specs.World.{Role, Node, World, any_role, is_named}
-use Rattle.world_rules.specs.Declarations.{is_new_name}
 
 -- a node's name and role
 pub record Card : Type 0 where

@@ -1,25 +1,9 @@
 -- The events of deeds: none declares a wallet or enters a call, and a bundle that is accepted is of a coin of the log.
-use Rattle.std.proofs.Common.{◌≡◌, ℕ, true, List, Ok, Err, refl, ap, arith, rules}
-use Rattle.std.specs.Prelude.{Result}
-use Rattle.std.proofs.lemmas.Grind.{common_steps}
-use Rattle.plasma_tx.specs.declared.links.Links.{Links}
-use Rattle.plasma_tx.specs.declared.call.RootCall.{RootCall}
-use Rattle.plasma_tx.specs.Shown.{Tests, Rules}
-use Rattle.coin_history.specs.declared.bundle.Bundle.{Bundle}
-use Rattle.coin_history.specs.declared.refusal.HistoryRefusal.{HistoryRefusal}
-use Rattle.coin_history.specs.Checking.{history_of}
-use Rattle.node_rules.specs.declared.answers.Accepted.{Accepted}
-use Rattle.node_rules.specs.Kept.{links_handed}
-use Rattle.node_rules.specs.Wallet.{WalletRecords, who, noted, accept_by, accept_effect}
-use Rattle.world_rules.specs.Events.{Event, Accepts}
-use Rattle.world_rules.specs.World.{Node, wallet_of}
-use Rattle.world_rules.specs.Deeds.{as_deed}
+use Rattle.world_rules.proofs.Basics.{◌≡◌, ℕ, true, List, Ok, Err, refl, ap, arith, rules, Result, common_steps}
+use Rattle.world_rules.proofs.CoinWords.{Links, RootCall, Tests, Rules, Bundle, HistoryRefusal, history_of}
+use Rattle.world_rules.proofs.NodeWords.{Accepted, links_handed, WalletRecords, who, noted, accept_by, accept_effect, NodeOrder}
+use Rattle.world_rules.proofs.WorldWords.{Event, Accepts, Node, wallet_of, as_deed, bundle_read, node_does, without_offers, End, Whole, Lost, event_after}
 use Rattle.world_rules.proofs.OrderEnds.{OrderEnds, Accepting as AcceptEnds, order-ends}
-use Rattle.node_replies.specs.declared.order.NodeOrder.{NodeOrder}
-use Rattle.world_rules.specs.OrderEvents.{bundle_read}
-use Rattle.world_rules.specs.Orders.{node_does}
-use Rattle.world_rules.specs.Steps.{without_offers}
-use Rattle.world_rules.specs.Acts.{End, Whole, Lost, event_after}
 use Rattle.world_rules.proofs.HeldTips.{IsCoin}
 use Rattle.world_rules.proofs.KeptNames.{is_plain}
 

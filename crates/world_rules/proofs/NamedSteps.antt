@@ -1,22 +1,9 @@
 -- Each line of a run makes a move, so every run keeps what moves keep.
-use Rattle.std.proofs.Common.{◌≡◌, ℕ, not, nat_lt, Bool, true, false, if◌then◌else◌, List, [], ◌∷◌, length, Some, refl, sym, ap, ◌&&◌, ◌||◌, arith}
-use Rattle.std.proofs.lemmas.Bool.{and_parts, false≢true}
-use Rattle.std.proofs.lemmas.Grind.{common_steps}
-use Rattle.plasma_tx.specs.declared.call.RootCall.{RootCall}
+use Rattle.world_rules.proofs.Basics.{◌≡◌, ℕ, not, Bool, true, false, if◌then◌else◌, List, [], ◌∷◌, Some, refl, sym, ap, ◌&&◌, arith, and_parts, false≢true, common_steps}
+use Rattle.world_rules.proofs.CoinWords.{RootCall, tests_by, rules_of, answer_to, is_accepted, log_after}
+use Rattle.world_rules.proofs.NodeWords.{wallet_text, owner_of}
+use Rattle.world_rules.proofs.WorldWords.{Line, Event, Declares, Joins, Bounces, log_of, wallet_owner, accepted, Wallet, Watcher, Node, World, is_new_name, is_wallet_account, Deed, new_node, after_crash, TraceEntry, entry_of, Run, run_of, events_of, NewWallet, NewWatcher, NewRogue, Act, Rests, Signs, Adds, Enters, Orders, Crashes, End, end_of, node_after, deed_at, done, IsActIn}
 use Rattle.plasma_tx.specs.declared.answer.Answer.{Answer}
-use Rattle.plasma_tx.specs.Shown.{tests_by, rules_of}
-use Rattle.plasma_tx.specs.Table.{answer_to, is_accepted, log_after}
-use Rattle.schedule_text.specs.declared.line.Line.{Line}
-use Rattle.node_rules.specs.Watcher.{identity_text as watcher_text}
-use Rattle.node_rules.specs.WalletRecords.{identity_text as wallet_text, owner_of}
-use Rattle.world_rules.specs.Events.{Event, Declares, Joins, Bounces, log_of, wallet_owner, accepted}
-use Rattle.world_rules.specs.World.{Wallet, Watcher, Node, World}
-use Rattle.world_rules.specs.Declarations.{is_new_name, is_wallet_account, wallet_nodes, is_declared_account, is_caller, is_wallet_key, is_wallet_seed}
-use Rattle.world_rules.specs.Deeds.{Deed}
-use Rattle.world_rules.specs.Steps.{new_node, after_crash, TraceEntry, entry_of, Run, run_of, events_of}
-use Rattle.world_rules.specs.declared.TheConstants.{MOST_WALLETS}
-use Rattle.world_rules.specs.Acts.{NewWallet, NewWatcher, NewRogue, Act, Rests, Signs, Adds, Enters, Orders, Crashes, End, end_of, node_after, deed_at, done}
-use Rattle.world_rules.specs.Evidence.{IsActIn}
 use Rattle.world_rules.proofs.Lives.{begun, IsAny, any_run, runs_keep}
 use Rattle.world_rules.proofs.Named.{Card, card, cards, new-other, cards-set, cards-push, cards-length}
 use Rattle.world_rules.proofs.KeptNames.{Kept, Move, Rests as Stays, Enters as Joining, Takes, Adds as AddsNode, AddsWallet, kept-move}
@@ -48,14 +35,10 @@ module _ (dig : List ℕ → List ℕ) (world : World) where
   act-moves (Adds name (NewWallet who)) known =
       AddsWallet name (owner_of who) (cards-push world.nodes (new_node Wallet name who.account (wallet_text who))) refl
       (ap (λ (k : ℕ). Declares k (owner_of who)) (sym (cards-length world.nodes)))
-      (new-other world name
-      (head (is_new_name world name) (nat_lt (length (wallet_nodes world)) MOST_WALLETS)
-      (not (is_declared_account world who.account || is_caller world who.account))
-      (not (is_wallet_key world (owner_of who).key || is_wallet_seed world who.seed)) known.1))
+      (grind (arith, common_steps, new-other, head))
   act-moves (Adds name (NewWatcher account)) known =
       AddsNode (record { name = name; role = Watcher })
-      (cards-push world.nodes
-      (new_node Watcher name account (watcher_text (record { tag = world.chain.tag; account = account })))) refl refl
+      (grind (arith, common_steps, cards-push)) refl refl
       (new-other world name (and_parts (is_new_name world name) (not (is_wallet_account world account)) known).0)
   act-moves (Adds name (NewRogue who)) known = Stays refl refl refl
   act-moves (Enters origin call) known =
@@ -71,8 +54,7 @@ module _ (dig : List ℕ → List ℕ) (world : World) where
       let deed = deed_at dig world place order in
       let end = end_of cut place.node order deed in
       from-deed (cards world.nodes) _ world.chain.log _
-      (cards-set world.nodes place.number place.node (node_after place.node deed end) known.there
-      (card-after place.node deed end))
+      (grind (arith, common_steps, cards-set, card-after))
       (order-is dig world.chain.log place.number place.node order end)
   act-moves (Crashes place) known =
       Stays (cards-set world.nodes place.number place.node (after_crash place.node) known refl) refl refl

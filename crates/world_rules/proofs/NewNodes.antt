@@ -1,31 +1,16 @@
 -- The records that a node is declared with are what is said of it then.
-use Rattle.std.proofs.Common.{◌≡◌, ℕ, ◌^◌, ◌<◌, ◌&&◌, Bool, true, false, if◌then◌else◌, List, [], ◌∷◌, ◌++◌, length, Option, Some, is_some, refl, sym, ap, subst, arith, lit<}
-use Rattle.std.specs.Option.{option_map_or}
-use Rattle.std.proofs.lemmas.Bool.{false≢true}
-use Rattle.std.proofs.lemmas.List.{length-take-le}
-use Rattle.std.proofs.lemmas.Grind.{common_steps}
+use Rattle.world_rules.proofs.Basics.{◌≡◌, ℕ, ◌^◌, ◌<◌, ◌&&◌, Bool, true, false, if◌then◌else◌, List, [], ◌∷◌, ◌++◌, length, Option, Some, is_some, refl, sym, ap, subst, arith, lit<, option_map_or, false≢true, length-take-le, common_steps}
+use Rattle.world_rules.proofs.CoinWords.{public_key_of, RootCall, IsOwner}
+use Rattle.world_rules.proofs.NodeWords.{records_behind_of, WalletIdentity, is_first, common_text, short_text, identity_text, no_one, who_is, notes_of, state_notes, secret_of, owner_of, WalletRecords, who, is_wallet, IsIdentity, WatcherIdentity, watcher_text, watcher_notes, guards_of, IsWatcherIdentity, Small, small-cons, small-append, small-take, small-number, small-short, small-sha256, small-key, length-key, small-zeros}
+use Rattle.world_rules.proofs.WorldWords.{Declares, padded}
 use Rattle.sha2.specs.Sha256.{sha256}
 use Rattle.sha2.proofs.Facts256.{length-sha256}
-use Rattle.lms_sign.specs.Tree.{public_key_of}
-use Rattle.leaf_journal.specs.Records.{records_behind_of}
-use Rattle.plasma_tx.specs.declared.call.RootCall.{RootCall}
-use Rattle.plasma_tx.specs.Spelling.{IsOwner}
-use Rattle.node_rules.specs.declared.identity.WalletIdentity.{WalletIdentity}
-use Rattle.node_rules.specs.WalletRecords.{is_first, common_text, short_text, identity_text, no_one, who_is, notes_of, state_notes, secret_of, owner_of}
-use Rattle.node_rules.specs.Wallet.{WalletRecords, who}
-use Rattle.node_rules.specs.WalletOpening.{is_wallet}
-use Rattle.node_rules.specs.WalletLaws.{IsIdentity}
-use Rattle.node_rules.specs.Watcher.{WatcherIdentity, identity_text as watcher_text, notes_of as watcher_notes, guards_of}
-use Rattle.node_rules.specs.WatcherLaws.{IsIdentity as IsWatcherIdentity}
 use Rattle.node_rules.proofs.WalletTexts.{identity_in-text}
 use Rattle.node_rules.proofs.WatcherTexts.{identity_in-text as watcher_in-text}
-use Rattle.world_rules.specs.Events.{Declares}
-use Rattle.node_replies.proofs.ByteTexts.{Small, small-cons, small-append, small-take, small-number, small-short, small-sha256, small-key, length-key, small-zeros}
 use Rattle.world_rules.proofs.Said.{nothing_said, told}
 use Rattle.world_rules.proofs.KeptWallet.{KeptWallet}
 use Rattle.world_rules.proofs.KeptWatcher.{KeptWatcher}
 use Rattle.world_rules.proofs.KeptNode.{IsGoodOwner}
-use Rattle.world_rules.specs.World.{padded}
 
 -- ---- owners
 
@@ -71,8 +56,7 @@ module _ (dig : List ℕ → List ℕ) (me : WalletIdentity) (is : IsIdentity me
 
   new-is : is_wallet dig (new_wallet me) ≡ true
   unfolding is_wallet notes_of records_behind_of
-  new-is =
-      ap (λ (o : Option WalletIdentity). ((is_some o && true) && true) && true) (identity_in-text me is)
+  new-is = ap (λ (o : Option WalletIdentity). ((is_some o && true) && true) && true) (identity_in-text me is)
 
   pub new-wallet-kept : (log : List RootCall) (n : ℕ) → Small me.tag → Small me.seed
       → KeptWallet dig (told (Declares n (owner_of me)) nothing_said) log (new_wallet me)

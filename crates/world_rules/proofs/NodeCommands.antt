@@ -1,35 +1,12 @@
 -- Each order of a node keeps what events say of it, and makes bytes.
-use Rattle.std.proofs.Common.{◌≡◌, ℕ, List, [], Option, Some, None, Ok, sym, subst, Bool, true, arith}
-use Rattle.std.specs.Prelude.{Result, IfSome, slice_get, unwrap_or}
-use Rattle.std.proofs.lemmas.Grind.{common_steps}
-use Rattle.leaf_journal.specs.Records.{messages_of}
-use Rattle.plasma_tx.specs.declared.owner.Owner.{Owner}
-use Rattle.plasma_tx.specs.declared.call.RootCall.{RootCall}
-use Rattle.plasma_tx.specs.Spelling.{body_text}
-use Rattle.node_rules.specs.declared.answers.Sent.{Sent}
-use Rattle.node_rules.specs.declared.refusal.WalletRefusal.{WalletRefusal}
-use Rattle.node_rules.specs.WalletRecords.{secret_of, leaves_in}
-use Rattle.node_rules.specs.Wallet.{WalletRecords, WalletEffect, who, used, accept_effect, send_effect, last_leaf, again_by, again_answer, leave_effect, reclaim_effect, migrate_effect}
-use Rattle.node_rules.specs.WalletCommandLaws.{sent_body}
-use Rattle.node_rules.specs.Watcher.{guard_effect, release_effect}
-use Rattle.operator_rules.specs.Commands.{offer_effect, lay_effect, seal_effect, prove_answer, bundle_answer, absences_answer}
-use Rattle.node_replies.specs.Causes.{wallet_cause, watcher_cause, offer_cause, lay_cause, seal_cause, prove_cause}
-use Rattle.world_rules.specs.World.{Node, World, wallet_of, is_wallet_role, is_watcher_role, is_operator_role}
-use Rattle.world_rules.specs.Deeds.{Deed, as_deed}
-use Rattle.node_replies.specs.Orders.{Response, without_record, answered, on_accepted, on_sent, on_leaving, on_reclaimed, on_migrated, again_does, wallet_does, on_guarded, on_released, watcher_does, on_pooled, on_laid, on_sealed, on_bundled, on_proved, operator_does}
-use Rattle.world_rules.specs.Orders.{on_open, node_does}
-use Rattle.world_rules.specs.OrderEvents.{event_of}
+use Rattle.world_rules.proofs.Basics.{◌≡◌, ℕ, List, [], Option, Some, None, Ok, sym, subst, Bool, true, arith, Result, IfSome, slice_get, unwrap_or, common_steps}
+use Rattle.world_rules.proofs.CoinWords.{Owner, RootCall, body_text}
+use Rattle.world_rules.proofs.NodeWords.{messages_of, Sent, WalletRefusal, secret_of, leaves_in, WalletRecords, WalletEffect, who, used, accept_effect, send_effect, last_leaf, again_by, again_answer, leave_effect, reclaim_effect, migrate_effect, sent_body, guard_effect, release_effect, wallet_cause, watcher_cause, offer_cause, lay_cause, seal_cause, prove_cause, Response, without_record, answered, on_accepted, on_sent, on_leaving, on_reclaimed, on_migrated, again_does, wallet_does, on_guarded, on_released, watcher_does, on_pooled, on_laid, on_sealed, on_bundled, on_proved, operator_does, NodeOrder, WalletOrder, WatcherOrder, OperatorOrder, Small, small-nil, small-append, small-signature, small-body, SendEnds, Refused, Sends, send_ends}
+use Rattle.world_rules.proofs.OperatorWords.{offer_effect, lay_effect, seal_effect, prove_answer, bundle_answer, absences_answer}
+use Rattle.world_rules.proofs.WorldWords.{Node, World, wallet_of, is_wallet_role, is_watcher_role, is_operator_role, Deed, as_deed, on_open, node_does, event_of, IsDigest}
 use Rattle.world_rules.proofs.OrderEnds.{IsOrderAt, each-answer}
-use Rattle.node_replies.specs.declared.order.NodeOrder.{NodeOrder}
-use Rattle.node_replies.specs.declared.order.WalletOrder.{WalletOrder}
-use Rattle.node_replies.specs.declared.order.WatcherOrder.{WatcherOrder}
-use Rattle.node_replies.specs.declared.order.OperatorOrder.{OperatorOrder}
-use Rattle.node_replies.proofs.ByteTexts.{Small, small-nil, small-append, small-signature, small-body}
 use Rattle.world_rules.proofs.OperatorItems.{AreSmallRecords, prove-small, bundle-made, absences-made, offer-noted, lay-noted, seal-noted}
-use Rattle.world_rules.specs.Laws.{IsDigest}
 use Rattle.world_rules.proofs.Said.{Said, told}
-use Rattle.node_replies.proofs.WalletEnds.{SendEnds, Refused, Sends, send_ends}
-use Rattle.world_rules.proofs.KeptWallet.{KeptWallet}
 use Rattle.world_rules.proofs.WalletAccepts.{accepts-kept}
 use Rattle.world_rules.proofs.WalletSends.{sends-kept}
 use Rattle.world_rules.proofs.WalletNotes.{reclaims-kept, leaves-kept, migrates-kept}
@@ -99,9 +76,7 @@ module _ (dig : List ℕ → List ℕ) (is_digest : IsDigest dig) (s : Said) (wo
         (sent-made coin to last fit.1.key)
     wallet-kept (WalletOrder.Again coin) fit =
         of-wallet dig s log node role (deed_by (NodeOrder.Wallet (WalletOrder.Again coin)))
-        (each-answer (λ r. KeptWallet dig (told (event_of n (NodeOrder.Wallet (WalletOrder.Again coin)) r) s) log
-        wallet)
-        wallet_cause on_sent (again_answer wallet coin) (λ sent is. kept.wallet role) (λ why. kept.wallet role))
+        (grind (arith, common_steps, each-answer, told))
         (again-made coin)
     wallet-kept (WalletOrder.Leave coin) fit =
         let effect = leave_effect dig wallet log coin in

@@ -1,14 +1,8 @@
 -- The event of a node's order says something of that node alone, however the order ends.
-use Rattle.std.proofs.Common.{◌≡◌, ◌≢◌, ℕ, ◌==◌, false, List, ◌∷◌, refl, arith}
-use Rattle.std.proofs.lemmas.Bool.{eq-eqb, ne_eqb}
-use Rattle.std.proofs.lemmas.Grind.{common_steps}
-use Rattle.plasma_tx.specs.declared.call.RootCall.{RootCall}
-use Rattle.node_replies.specs.declared.order.NodeOrder.{NodeOrder}
-use Rattle.world_rules.specs.Events.{Event, Other, log_of}
-use Rattle.world_rules.specs.World.{Node}
-use Rattle.world_rules.specs.Deeds.{Deed}
-use Rattle.world_rules.specs.Steps.{without_offers}
-use Rattle.world_rules.specs.Acts.{End, Lost, event_after}
+use Rattle.world_rules.proofs.Basics.{◌≡◌, ◌≢◌, ℕ, ◌==◌, false, List, ◌∷◌, refl, arith, eq-eqb, ne_eqb, common_steps}
+use Rattle.world_rules.proofs.CoinWords.{RootCall}
+use Rattle.world_rules.proofs.NodeWords.{NodeOrder}
+use Rattle.world_rules.proofs.WorldWords.{Event, Other, log_of, Node, Deed, without_offers, End, Lost, event_after}
 use Rattle.world_rules.proofs.OrderEnds.{OrderEnds, Accepting, Binding, TakingBack, Guarding, Releasing}
 use Rattle.world_rules.proofs.Said.{said, told, is_said_of, said-own, said-other}
 
@@ -53,8 +47,7 @@ module _ (n : ℕ) (events : List Event) where
         (speaks event refl (λ m. refl), speaks event refl (λ m. refl))
     told-ends order event calls (Guarding bytes taken made) =
         (speaks event refl (λ m. refl), speaks event refl (λ m. refl))
-    told-ends order event calls (Releasing coin tip) =
-        (speaks event refl (λ m. refl), speaks event refl (λ m. refl))
+    told-ends order event calls (Releasing coin tip) = (speaks event refl (λ m. refl), speaks event refl (λ m. refl))
     told-ends order event calls ends =
         (still event event refl (λ m. refl) refl, still (without_offers n event) event refl (λ m. refl) refl)
 

@@ -1,20 +1,8 @@
 -- What each step does to the nodes and their records.
-use Rattle.std.proofs.Common.{◌≡◌, ◌⊎◌, ℕ, List, Option, None, inl, refl, sym, ap, subst, arith}
-use Rattle.std.proofs.lemmas.Grind.{common_steps}
-use Rattle.plasma_tx.specs.declared.owner.Owner.{Owner}
-use Rattle.coin_history.specs.Bundles.{bundle_in}
-use Rattle.node_rules.specs.Kept.{links_handed}
-use Rattle.node_rules.specs.Wallet.{WalletRecords, noted, who, coin_state, accept_effect, send_effect, leave_effect, reclaim_effect}
-use Rattle.node_rules.proofs.WalletAdded.{accept-leaf, send-note, leave-leaf, reclaim-leaf, migrate-note}
-use Rattle.world_rules.specs.World.{Node, World}
-use Rattle.world_rules.specs.Deeds.{Deed, as_deed}
-use Rattle.world_rules.specs.Orders.{node_does}
-use Rattle.node_replies.specs.declared.order.NodeOrder.{NodeOrder}
-use Rattle.node_replies.specs.declared.order.WalletOrder.{WalletOrder}
-use Rattle.node_replies.specs.Orders.{with_record, wallet_does, watcher_does, operator_does}
-use Rattle.world_rules.specs.Steps.{LineEffect, after_crash}
-use Rattle.world_rules.specs.Laws.{GrowsByOne, GrowsAtMost, ChangesOneNode, DeclaresOneNode, RecordsGrow}
-use Rattle.world_rules.specs.Acts.{NewWallet, NewWatcher, NewRogue, Act, Adds, Orders, Crashes, End, end_of, node_after, deed_at}
+use Rattle.world_rules.proofs.Basics.{◌≡◌, ◌⊎◌, ℕ, List, Option, None, inl, refl, sym, ap, subst, arith, common_steps}
+use Rattle.world_rules.proofs.CoinWords.{Owner, bundle_in}
+use Rattle.world_rules.proofs.NodeWords.{links_handed, WalletRecords, noted, who, coin_state, accept_effect, send_effect, leave_effect, reclaim_effect, accept-leaf, send-note, leave-leaf, reclaim-leaf, migrate-note, NodeOrder, WalletOrder, with_record, wallet_does, watcher_does, operator_does}
+use Rattle.world_rules.proofs.WorldWords.{Node, World, Deed, as_deed, node_does, LineEffect, after_crash, GrowsByOne, GrowsAtMost, ChangesOneNode, DeclaresOneNode, RecordsGrow, NewWallet, NewWatcher, NewRogue, Act, Adds, Orders, Crashes, End, end_of, node_after, deed_at}
 use Rattle.world_rules.proofs.Nodes.{Change, OneNode, change_of, nodes_after, nodes-done, IsOld, is-old}
 use Rattle.world_rules.proofs.Lives.{stepped}
 
@@ -85,8 +73,7 @@ grows-after node deed one end = grind (arith, common_steps, grows, crash-grows)
 -- ---- each act
 
 abbrev pub NodesGrow : World → List Node → Type 0
-NodesGrow world after =
-    (after ≡ world.nodes) ⊎ ChangesOneNode world.nodes after ⊎ DeclaresOneNode world.nodes after
+NodesGrow world after = (after ≡ world.nodes) ⊎ ChangesOneNode world.nodes after ⊎ DeclaresOneNode world.nodes after
 
 module _ (dig : List ℕ → List ℕ) (world : World) where
   -- what changes grows at most by one

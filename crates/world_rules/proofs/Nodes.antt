@@ -1,17 +1,9 @@
 -- What an act does to the nodes, and the one theorem of what holds of each: its own node keeps it, the others stay, and
 -- a new one has it.
-use Rattle.std.proofs.Common.{◌≡◌, ◌≢◌, ℕ, List, [], ◌∷◌, ◌++◌, length, Option, Some, None, subst, arith}
-use Rattle.std.specs.Prelude.{set, slice_get}
-use Rattle.std.proofs.lemmas.Bool.{cases_eq}
-use Rattle.std.proofs.lemmas.Option.{slice_get_past}
-use Rattle.std.proofs.lemmas.Grind.{common_steps}
-use Rattle.node_rules.specs.Watcher.{identity_text as watcher_text}
-use Rattle.node_rules.specs.WalletRecords.{identity_text as wallet_text}
-use Rattle.world_rules.specs.World.{Wallet, Watcher, Node, World}
-use Rattle.world_rules.specs.Steps.{new_node, after_crash}
+use Rattle.world_rules.proofs.Basics.{◌≡◌, ◌≢◌, ℕ, List, [], ◌∷◌, ◌++◌, length, Option, Some, None, subst, arith, set, slice_get, cases_eq, slice_get_past, common_steps}
+use Rattle.world_rules.proofs.NodeWords.{watcher_text, wallet_text}
+use Rattle.world_rules.proofs.WorldWords.{Wallet, Watcher, Node, World, new_node, after_crash, Place, NewWallet, NewWatcher, Act, Adds, Orders, Crashes, end_of, node_after, deed_at, done, IsActIn}
 use Rattle.world_rules.proofs.Runs.{set-same, set-other, push-same, push-other}
-use Rattle.world_rules.specs.Acts.{Place, NewWallet, NewWatcher, Act, Adds, Orders, Crashes, end_of, node_after, deed_at, done}
-use Rattle.world_rules.specs.Evidence.{IsActIn}
 
 -- ---- what changes
 

@@ -1,17 +1,7 @@
 -- What a node offers is what the events of a run say.
-use Rattle.std.proofs.Common.{◌≡◌, ℕ, false, if◌then◌else◌, List, [], ◌∷◌, length, Option, Some, None, refl, sym, ap, ◌∙◌, subst, arith}
-use Rattle.std.specs.Prelude.{slice_get}
-use Rattle.std.proofs.lemmas.Bool.{true≢false, eq-eqb}
-use Rattle.std.proofs.lemmas.Grind.{common_steps}
-use Rattle.plasma_tx.specs.declared.call.RootCall.{RootCall}
-use Rattle.schedule_text.specs.declared.line.Line.{Line}
-use Rattle.world_rules.specs.Events.{Event, is_command_of, offered, offers_of}
-use Rattle.world_rules.specs.World.{Node, World}
-use Rattle.world_rules.specs.Deeds.{Deed}
-use Rattle.world_rules.specs.Steps.{TraceEntry, Run, entry_of, run_of, events_of}
-use Rattle.world_rules.specs.Laws.{OffersAreOfEvents, DownNodesOfferNothing}
-use Rattle.world_rules.specs.Acts.{NewWallet, NewWatcher, NewRogue, Act, Adds, Orders, Crashes, End, end_of, node_after, deed_at, done}
-use Rattle.world_rules.specs.Evidence.{IsActIn}
+use Rattle.world_rules.proofs.Basics.{◌≡◌, ℕ, false, if◌then◌else◌, List, [], ◌∷◌, length, Option, Some, None, refl, sym, ap, ◌∙◌, subst, arith, slice_get, true≢false, eq-eqb, common_steps}
+use Rattle.world_rules.proofs.CoinWords.{RootCall}
+use Rattle.world_rules.proofs.WorldWords.{Line, Event, is_command_of, offered, offers_of, Node, World, Deed, TraceEntry, Run, entry_of, run_of, events_of, OffersAreOfEvents, DownNodesOfferNothing, NewWallet, NewWatcher, NewRogue, Act, Adds, Orders, Crashes, End, end_of, node_after, deed_at, done, IsActIn}
 use Rattle.world_rules.proofs.Nodes.{change_of, EachNode, IsKeptOwn, each_node_keeps}
 use Rattle.world_rules.proofs.Told.{IsBy, OperatorIsFirst, by-end, commands-others}
 use Rattle.world_rules.proofs.Lives.{begun, IsAny, any_run, runs_keep}

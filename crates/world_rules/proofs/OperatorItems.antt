@@ -1,40 +1,17 @@
 -- What the operator makes, and the records that it adds, are bytes.
-use Rattle.std.proofs.Common.{◌≡◌, ℕ, ◌==◌, ◌&&◌, Bool, true, false, if◌then◌else◌, List, [], ◌∷◌, drop, length, Option, Some, None, Ok, Err, refl, subst, lit<, arith}
-use Rattle.std.specs.Prelude.{Result, IfSome, reverse, nat_le, nat_lt}
-use Rattle.std.specs.List.{AllByRecursion, filter_map}
-use Rattle.std.specs.Str.{bytes_eq}
-use Rattle.node_journal.specs.Effect.{Effect, only, unless}
-use Rattle.line_forms.proofs.FormLaws.{and_then_some}
-use Rattle.sparse_merkle.specs.declared.tree.Entry.{Entry}
-use Rattle.sparse_merkle.specs.TreeDigest.{root_of}
-use Rattle.plasma_tx.specs.declared.opening.RawOpening.{RawOpening}
-use Rattle.plasma_tx.specs.declared.call.RootCall.{RootCall}
-use Rattle.plasma_tx.specs.declared.views.CoinView.{CoinView}
-use Rattle.plasma_tx.specs.Spelling.{number_at}
-use Rattle.plasma_tx.specs.Views.{coin_at, blocks}
-use Rattle.plasma_tx.proofs.Names.{some_same}
-use Rattle.plasma_tx.specs.Shown.{root_at}
-use Rattle.plasma_tx.proofs.Each.{all-append, all-found}
-use Rattle.coin_history.specs.declared.bundle.Bundle.{Bundle}
+use Rattle.world_rules.proofs.Basics.{◌≡◌, ℕ, ◌==◌, ◌&&◌, Bool, true, false, if◌then◌else◌, List, [], ◌∷◌, drop, length, Option, Some, None, Ok, Err, refl, subst, lit<, arith, Result, IfSome, reverse, nat_le, nat_lt, AllByRecursion, filter_map, bytes_eq, reverse-append, common_steps}
+use Rattle.world_rules.proofs.CoinWords.{Entry, root_of, RawOpening, RootCall, CoinView, number_at, coin_at, blocks, some_same, root_at, all-append, all-found, Bundle, bundle_text, committed_blocks, may_be_tip}
+use Rattle.world_rules.proofs.NodeWords.{Effect, only, unless, Small, small-nil, small-cons, small-append, small-drop, small-number, small-back, IsSmallOpening, AreSmallOpenings, small-bundle}
+use Rattle.world_rules.proofs.OperatorWords.{Note, Offered, Laid, Sealed, spells_transfer, note_text, note_in, who_is, notes_of, Forest, forest_of, tree_of, tree_at, opening_in_tree, forest_in, offer_effect, lay_effect, seal_effect, prove_by, prove_answer, openings_of, as_bundle, bundle_between, bundle_to, bundle_of, bundle_answer, absences_answer, tip_asked}
+use Rattle.world_rules.proofs.WorldWords.{and_then_some, IsDigest}
 use Rattle.operator_rules.specs.declared.refusal.OfferRefusal.{OfferRefusal}
 use Rattle.operator_rules.specs.declared.refusal.ProveRefusal.{ProveRefusal}
-use Rattle.operator_rules.specs.Records.{Note, Offered, Laid, Sealed, spells_transfer, note_text, note_in, who_is, notes_of}
-use Rattle.operator_rules.specs.Trees.{Forest, forest_of, tree_of, tree_at, opening_in_tree}
-use Rattle.operator_rules.specs.Commands.{forest_in, offer_effect, lay_effect, seal_effect, prove_by, prove_answer, openings_of, as_bundle, bundle_between, bundle_to, bundle_of, bundle_answer, absences_answer, tip_asked}
-use Rattle.world_rules.specs.Laws.{IsDigest}
-use Rattle.node_replies.proofs.ByteTexts.{Small, small-nil, small-cons, small-append, small-drop, small-number, small-back}
-use Rattle.node_replies.proofs.BundleTexts.{IsSmallOpening, AreSmallOpenings, small-bundle}
-use Rattle.world_rules.proofs.ItemTexts.{IsSmallTree, tree-with, opening-small}
-use Rattle.std.proofs.lemmas.List.{reverse-append}
-use Rattle.std.proofs.lemmas.Grind.{common_steps}
-use Rattle.coin_history.specs.Bundles.{bundle_text}
 use Rattle.operator_rules.specs.declared.TheConstants.{MOST_LAID}
-use Rattle.coin_history.specs.History.{committed_blocks}
 use Rattle.operator_rules.specs.declared.refusal.ProveRefusal.TheVariants.{UnknownBlock}
 use Rattle.operator_rules.specs.Walk.{present}
 use Rattle.operator_rules.specs.declared.refusal.LayRefusal.TheVariants.{LeafTooLong}
-use Rattle.coin_history.specs.Checking.{may_be_tip}
 use Rattle.operator_rules.specs.Walk.{present}
+use Rattle.world_rules.proofs.ItemTexts.{IsSmallTree, tree-with, opening-small}
 
 -- ---- records
 
@@ -51,8 +28,7 @@ IsSmallNote Sealed = Unit {0}
 note-small : (tag body : List ℕ) (note : Note) → Small body → note_in tag body ≡ Some note → IsSmallNote note
 unfolding note_in
 note-small tag [] note small is = absurd (cc is)
-note-small tag (mark ∷ bytes) note small is =
-    offered ((mark == 34) && spells_transfer tag bytes) is
+note-small tag (mark ∷ bytes) note small is = offered ((mark == 34) && spells_transfer tag bytes) is
   where
     rest : Small bytes
     rest = small-back (mark ∷ []) bytes small
@@ -190,8 +166,7 @@ module _ (dig : List ℕ → List ℕ) (is_digest : IsDigest dig) (records : Lis
           else bundle_between dig log (forest_in records).sealed coin after last) ≡ Ok bundle
           → Small (bundle_text bundle)
       by true is = absurd (cc is)
-      by false is =
-          between-small dig is_digest log (forest_in records).sealed sealed-small coin after last bundle is
+      by false is = between-small dig is_digest log (forest_in records).sealed sealed-small coin after last bundle is
 
 -- ---- what is noted
 

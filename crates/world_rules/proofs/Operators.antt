@@ -1,11 +1,6 @@
 -- In every run the first node alone is the operator.
-use Rattle.std.proofs.Common.{◌≡◌, ℕ, true, List, [], ◌∷◌, Option, Some, None, subst, arith}
-use Rattle.std.proofs.lemmas.Bool.{false≢true}
-use Rattle.std.proofs.lemmas.Grind.{common_steps}
-use Rattle.schedule_text.specs.declared.line.Line.{Line}
-use Rattle.world_rules.specs.World.{Node, World, is_operator_role}
-use Rattle.world_rules.specs.Steps.{TraceEntry, Run, entry_of}
-use Rattle.world_rules.specs.Acts.{Act}
+use Rattle.world_rules.proofs.Basics.{◌≡◌, ℕ, true, List, [], ◌∷◌, Option, Some, None, subst, arith, false≢true, common_steps}
+use Rattle.world_rules.proofs.WorldWords.{Line, Node, World, is_operator_role, TraceEntry, Run, entry_of, Act}
 use Rattle.world_rules.proofs.Nodes.{change_of, EachNode, IsKeptOwn, each_node_keeps}
 use Rattle.world_rules.proofs.Same.{same-after}
 use Rattle.world_rules.proofs.Told.{OperatorIsFirst}

@@ -1,35 +1,10 @@
 -- How the orders of nodes end: a command of a node is one order, which is refused or answered; by that it is an event,
 -- and offers calls.
-use Rattle.std.proofs.Common.{◌≡◌, ℕ, Bool, true, false, List, [], ◌∷◌, Some, Ok, arith}
-use Rattle.std.specs.Prelude.{Result}
-use Rattle.std.proofs.lemmas.Grind.{common_steps}
-use Rattle.line_forms.proofs.FormLaws.{option_map_some}
-use Rattle.sparse_merkle.specs.TreeDigest.{root_of}
-use Rattle.plasma_tx.specs.declared.owner.Owner.{Owner}
-use Rattle.plasma_tx.specs.declared.call.RootCall.{RootCall}
-use Rattle.plasma_tx.specs.Spelling.{body_at_start}
-use Rattle.plasma_tx.proofs.Names.{some_same}
-use Rattle.schedule_text.specs.declared.command.Command.{Command}
-use Rattle.node_rules.specs.declared.answers.Accepted.{Accepted}
-use Rattle.node_rules.specs.declared.answers.Sent.{Sent}
-use Rattle.node_rules.specs.declared.answers.Reclaimed.{Reclaimed}
-use Rattle.node_rules.specs.declared.refusal.WalletRefusal.{WalletRefusal}
-use Rattle.node_rules.specs.declared.refusal.WatcherRefusal.{WatcherRefusal}
-use Rattle.node_rules.specs.Wallet.{accept_effect, send_effect, again_answer, leave_effect, reclaim_effect, migrate_effect, watch_answer as wallet_watch}
-use Rattle.node_rules.specs.Watcher.{guard_effect, release_effect, watch_answer as watcher_watch}
-use Rattle.operator_rules.specs.Records.{who_is}
-use Rattle.operator_rules.specs.Commands.{forest_in, offer_effect, lay_effect, seal_effect, prove_answer, bundle_answer, absences_answer}
-use Rattle.node_replies.specs.declared.order.NodeOrder.{NodeOrder}
-use Rattle.node_replies.specs.declared.order.WalletOrder.{WalletOrder}
-use Rattle.node_replies.specs.declared.order.WatcherOrder.{WatcherOrder}
-use Rattle.node_replies.specs.declared.order.OperatorOrder.{OperatorOrder}
-use Rattle.node_replies.specs.Causes.{wallet_cause, watcher_cause, offer_cause, lay_cause, prove_cause}
-use Rattle.node_replies.specs.Orders.{Response, refused, answered, on_accepted, on_sent, on_leaving, on_reclaimed, on_migrated, wallet_does, on_guarded, on_released, watcher_does, on_pooled, on_laid, on_bundled, on_proved, operator_does}
-use Rattle.world_rules.specs.Events.{Event, Accepts, Guards, Releases, Binds, TakesBack, Watches, Leaves, Seals, Other}
-use Rattle.world_rules.specs.World.{Role, Node, World, wallet_of, is_wallet_role, is_watcher_role, is_operator_role}
-use Rattle.world_rules.specs.Declarations.{plays}
-use Rattle.world_rules.specs.Orders.{order_of, on_open, node_does}
-use Rattle.world_rules.specs.OrderEvents.{bundle_read, event_of}
+use Rattle.world_rules.proofs.Basics.{◌≡◌, ℕ, Bool, true, false, List, [], ◌∷◌, Some, Ok, arith, Result, common_steps}
+use Rattle.world_rules.proofs.CoinWords.{root_of, Owner, RootCall, body_at_start, some_same}
+use Rattle.world_rules.proofs.NodeWords.{Accepted, Sent, Reclaimed, WalletRefusal, WatcherRefusal, accept_effect, send_effect, again_answer, leave_effect, reclaim_effect, migrate_effect, wallet_watch, guard_effect, release_effect, watcher_watch, NodeOrder, WalletOrder, WatcherOrder, OperatorOrder, wallet_cause, watcher_cause, offer_cause, lay_cause, prove_cause, Response, refused, answered, on_accepted, on_sent, on_leaving, on_reclaimed, on_migrated, wallet_does, on_guarded, on_released, watcher_does, on_pooled, on_laid, on_bundled, on_proved, operator_does}
+use Rattle.world_rules.proofs.OperatorWords.{who_is, forest_in, offer_effect, lay_effect, seal_effect, prove_answer, bundle_answer, absences_answer}
+use Rattle.world_rules.proofs.WorldWords.{option_map_some, Command, Event, Accepts, Guards, Releases, Binds, TakesBack, Watches, Leaves, Seals, Other, Role, Node, World, wallet_of, is_wallet_role, is_watcher_role, is_operator_role, plays, order_of, on_open, node_does, bundle_read, event_of}
 
 -- ---- the order of a command
 

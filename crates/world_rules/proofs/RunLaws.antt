@@ -1,11 +1,6 @@
 -- The log and the mail of a run are those of its events and of what its lines made.
-use Rattle.std.proofs.Common.{◌≡◌, ℕ, List, [], ◌∷◌, ◌++◌, map, reverse, refl, sym, ap, ◌∙◌, arith}
-use Rattle.std.proofs.lemmas.Grind.{common_steps, reverse_onto}
-use Rattle.world_rules.specs.Events.{Event, log_of}
-use Rattle.world_rules.specs.World.{World}
-use Rattle.world_rules.specs.Steps.{TraceEntry, events_of}
-use Rattle.world_rules.specs.Acts.{Act, done}
-use Rattle.world_rules.specs.Laws.{LogsAreOfEvents, ItemsAreMade}
+use Rattle.world_rules.proofs.Basics.{◌≡◌, ℕ, List, [], ◌∷◌, map, reverse, refl, arith, common_steps, reverse_onto}
+use Rattle.world_rules.proofs.WorldWords.{Event, log_of, World, events_of, Act, done, LogsAreOfEvents, ItemsAreMade}
 use Rattle.world_rules.proofs.StepLaws.{act-log}
 use Rattle.world_rules.proofs.Lives.{line_effect, IsAny, any_run, runs_keep}
 
@@ -27,8 +22,7 @@ unfolding log_of events_of
 logs_are_of_events dig lines run world is world_is =
     runs_keep dig IsAny (λ entries world. world.chain.log ≡ log_of (events_of entries))
     (λ tag operator most. refl)
-    (λ before so_far there line act come good act_is known has.
-    log-more dig there act (events_of so_far.entries) has)
+    (grind (arith, common_steps, log-more))
     lines run world (any_run dig lines run world is world_is)
 
 -- ---- the mail
@@ -42,7 +36,5 @@ pub items_are_made : ItemsAreMade
 items_are_made dig lines run world is world_is =
     runs_keep dig IsAny (λ entries world. world.mail ≡ reverse (map (λ entry. entry.made) entries))
     (λ tag operator most. refl)
-    (λ before so_far there line act come good act_is known has.
-    ap (λ mail. mail ++ (done dig there act).made ∷ []) (mail-stays dig there act ∙ has)
-    ∙ sym (reverse_onto (map (λ (entry : TraceEntry). entry.made) so_far.entries) (done dig there act).made []))
+    (grind (arith, common_steps, mail-stays, reverse_onto))
     lines run world (any_run dig lines run world is world_is)

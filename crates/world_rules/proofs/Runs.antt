@@ -1,9 +1,6 @@
 -- Induction over the lines of any run, and lists of nodes.
-use Rattle.std.proofs.Common.{◌≡◌, ◌≢◌, ℕ, zero, suc, List, [], ◌∷◌, ◌++◌, length, Some, refl, ap, ◌∙◌}
-use Rattle.std.specs.Prelude.{set, slice_get, option_map}
-use Rattle.schedule_text.specs.declared.line.Line.{Line}
-use Rattle.world_rules.specs.World.{World}
-use Rattle.world_rules.specs.Steps.{LineEffect, step, TraceEntry, entry_of, Run, run_of}
+use Rattle.world_rules.proofs.Basics.{◌≡◌, ◌≢◌, ℕ, zero, suc, List, [], ◌∷◌, ◌++◌, length, Some, refl, ap, ◌∙◌, set, slice_get, option_map}
+use Rattle.world_rules.proofs.WorldWords.{Line, World, LineEffect, step, TraceEntry, entry_of, Run, run_of}
 use Rattle.world_rules.proofs.Lines.{steps_are_of_acts}
 use Rattle.world_rules.proofs.Lives.{begun, line_effect, IsAny, any_run, runs_keep}
 

@@ -1,11 +1,7 @@
 -- What the events of a run say of one node, and what one more event adds to it.
-use Rattle.std.proofs.Common.{◌≡◌, ℕ, ◌==◌, not, Bool, true, false, if◌then◌else◌, List, [], ◌∷◌, filter, Option, Some, None, refl, ap, ◌∙◌, arith}
-use Rattle.std.proofs.lemmas.Grind.{common_steps}
-use Rattle.plasma_tx.specs.declared.owner.Owner.{Owner}
-use Rattle.plasma_tx.specs.declared.body.Body.{Body}
-use Rattle.coin_history.specs.declared.bundle.Bundle.{Bundle}
-use Rattle.world_rules.specs.Events.{Event, Declares, Accepts, Guards, Releases, Binds, TakesBack, wallet_owner, accepted, bound_by, taken_back, guarded_by, is_bundle}
-use Rattle.world_rules.specs.Steps.{without_offers}
+use Rattle.world_rules.proofs.Basics.{◌≡◌, ℕ, ◌==◌, not, Bool, true, false, if◌then◌else◌, List, [], ◌∷◌, filter, Option, Some, None, refl, ap, ◌∙◌, arith, common_steps}
+use Rattle.world_rules.proofs.CoinWords.{Owner, Body, Bundle}
+use Rattle.world_rules.proofs.WorldWords.{Event, Declares, Accepts, Guards, Releases, Binds, TakesBack, wallet_owner, accepted, bound_by, taken_back, guarded_by, is_bundle, without_offers}
 
 -- what is said of a node: its owner, what its leaves bind and which it took back, and the bundles that it accepted or
 -- guards

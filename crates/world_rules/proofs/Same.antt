@@ -1,9 +1,6 @@
 -- Who a node is stays, however an order of it ends.
-use Rattle.std.proofs.Common.{◌≡◌, arith}
-use Rattle.std.proofs.lemmas.Grind.{common_steps}
-use Rattle.world_rules.specs.World.{Node}
-use Rattle.world_rules.specs.Deeds.{Deed}
-use Rattle.world_rules.specs.Acts.{End, node_after}
+use Rattle.world_rules.proofs.Basics.{◌≡◌, arith, common_steps}
+use Rattle.world_rules.proofs.WorldWords.{Node, Deed, End, node_after}
 
 pub record IsSame (node after : Node) : Type 0 where
   pub name : after.name ≡ node.name

@@ -1,13 +1,7 @@
 -- What each step does to the log.
-use Rattle.std.proofs.Common.{◌⊎◌, ℕ, List, [], inl, inr, refl, subst, arith}
-use Rattle.std.proofs.lemmas.Grind.{common_steps}
-use Rattle.plasma_tx.specs.declared.call.RootCall.{RootCall}
-use Rattle.plasma_tx.specs.Table.{log_after}
-use Rattle.world_rules.specs.Events.{log_of}
-use Rattle.world_rules.specs.World.{World}
-use Rattle.world_rules.specs.Steps.{LineEffect, called}
-use Rattle.world_rules.specs.Acts.{NewWallet, NewWatcher, NewRogue, Act, Rests, Signs, Adds, Enters, Orders, Crashes, end_of, deed_at, done, callers_after}
-use Rattle.world_rules.specs.Laws.{LeavesTheLog, AppendsOneCall, StepsKeepTheLog}
+use Rattle.world_rules.proofs.Basics.{◌⊎◌, ℕ, List, [], inl, inr, refl, subst, arith, common_steps}
+use Rattle.world_rules.proofs.CoinWords.{RootCall, log_after}
+use Rattle.world_rules.proofs.WorldWords.{log_of, World, LineEffect, called, NewWallet, NewWatcher, NewRogue, Act, Rests, Signs, Adds, Enters, Orders, Crashes, end_of, deed_at, done, callers_after, LeavesTheLog, AppendsOneCall, StepsKeepTheLog}
 use Rattle.world_rules.proofs.OrderEnds.{order-ends}
 use Rattle.world_rules.proofs.NodeEvents.{told-after}
 use Rattle.world_rules.proofs.Lives.{line_effect, stepped}

@@ -1,20 +1,11 @@
 -- The event of an act is of the node that it changes, so it says nothing of the others; and what it says of that one.
-use Rattle.std.proofs.Common.{◌≡◌, ℕ, true, false, List, [], length, Option, Some, None, refl, sym, ap, arith}
-use Rattle.std.specs.Prelude.{slice_get}
-use Rattle.std.proofs.lemmas.Bool.{ne_eqb}
-use Rattle.std.proofs.lemmas.Grind.{common_steps}
-use Rattle.plasma_tx.specs.declared.call.RootCall.{RootCall}
-use Rattle.plasma_tx.specs.Shown.{rules_of}
-use Rattle.node_replies.specs.declared.order.NodeOrder.{NodeOrder}
-use Rattle.world_rules.specs.Events.{Event, node_in, is_command_of, offered}
-use Rattle.world_rules.specs.World.{Node, World, is_operator_role}
-use Rattle.world_rules.specs.Deeds.{Deed}
-use Rattle.world_rules.specs.Steps.{without_offers}
+use Rattle.world_rules.proofs.Basics.{◌≡◌, ℕ, true, false, List, [], length, Option, Some, None, refl, sym, ap, arith, slice_get, ne_eqb, common_steps}
+use Rattle.world_rules.proofs.CoinWords.{RootCall, rules_of}
+use Rattle.world_rules.proofs.NodeWords.{NodeOrder}
+use Rattle.world_rules.proofs.WorldWords.{Event, node_in, is_command_of, offered, Node, World, is_operator_role, Deed, without_offers, Place, NewWallet, NewWatcher, NewRogue, Act, Rests, Signs, Adds, Enters, Orders, Crashes, End, end_of, node_after, event_after, deed_at, done, has_order, MayOrder, IsActIn}
 use Rattle.world_rules.proofs.OrderEnds.{OrderEnds, Sealing, order-ends}
 use Rattle.world_rules.proofs.NodeEvents.{IsTold, event_told, told-after}
 use Rattle.world_rules.proofs.Said.{is_said_of}
-use Rattle.world_rules.specs.Acts.{Place, NewWallet, NewWatcher, NewRogue, Act, Rests, Signs, Adds, Enters, Orders, Crashes, End, end_of, node_after, event_after, deed_at, done}
-use Rattle.world_rules.specs.Evidence.{has_order, MayOrder, IsActIn}
 use Rattle.world_rules.proofs.Nodes.{Change, OneNode, change_of, IsOther}
 
 -- the event is a command of node n, by which it offers these calls

@@ -1,19 +1,8 @@
 -- How many verdicts there are on a wallet and a coin, and what a verdict is on.
-use Rattle.std.proofs.Common.{◌≡◌, ◌⊎◌, ℕ, zero, suc, ◌+◌, ◌<◌, ◌≤◌, ◌==◌, cond, Bool, true, false, if◌then◌else◌, List, [], ◌∷◌, ◌++◌, slice_get, bytes_eq, Contains, count_by, flat_map, filter_map, option_map, option_and_then, Option, Some, None, inl, inr, refl, sym, ap, ◌∙◌, subst, arith, rules}
-use Rattle.std.specs.List.{cons_option, range_with_len}
-use Rattle.std.proofs.lemmas.Bool.{cases_eq, eq-eqb, ne_eqb, and_from, and_left, and_right}
+use Rattle.world_rules.proofs.Basics.{◌≡◌, ◌⊎◌, ℕ, zero, suc, ◌+◌, ◌<◌, ◌≤◌, cond, Bool, true, false, if◌then◌else◌, List, [], ◌∷◌, ◌++◌, slice_get, bytes_eq, Contains, count_by, flat_map, filter_map, Option, Some, None, inl, inr, refl, ap, ◌∙◌, subst, arith, rules, cons_option, range_with_len, cases_eq, eq-eqb, ne_eqb, and_from, and_left, and_right, Contains-append_cases, common_steps}
+use Rattle.world_rules.proofs.CoinWords.{Owner, coins, Tests, Rules}
+use Rattle.world_rules.proofs.WorldWords.{and_then_some, option_map_some, Verdict, Event, log_of, wallet_owner, Node, is_wallet_role, held_tip, Named, verdict_at, verdict_of, wallets_from, verdicts_on, is_on}
 use Rattle.std.proofs.lemmas.List.Sums.{sum_by-cons, sum_by-append}
-use Rattle.std.proofs.lemmas.List.Elements.{Contains-append_cases}
-use Rattle.std.proofs.lemmas.Grind.{common_steps}
-use Rattle.line_forms.proofs.FormLaws.{and_then_some, option_map_some}
-use Rattle.plasma_tx.specs.declared.owner.Owner.{Owner}
-use Rattle.plasma_tx.specs.Views.{coins}
-use Rattle.plasma_tx.specs.Shown.{Tests, Rules}
-use Rattle.world_rules.specs.declared.verdict.Verdict.{Verdict}
-use Rattle.world_rules.specs.Events.{Event, log_of, wallet_owner}
-use Rattle.world_rules.specs.World.{Node, is_wallet_role}
-use Rattle.world_rules.specs.Verdicts.{held_tip, Named, verdict_at, verdict_on, verdict_of, wallets_from, verdicts_on}
-use Rattle.world_rules.specs.Laws.{is_on}
 use Rattle.world_rules.proofs.Named.{card, cards, IsOther, AreDistinct, names-flip, own-name, other-at, card-at}
 
 -- ---- counts
@@ -54,8 +43,7 @@ module _ (p : Verdict → Bool) (f : ℕ → Option Verdict) where
       → ((k : ℕ) (other : Verdict) → (k ≡ c → ⊥) → f k ≡ Some other → p other ≡ false) → over start n ≡ 1
   coins-one zero start c v low high is passes fail = absurd (omega arith)
   coins-one (suc n) start c v low high is passes fail = elim (cases_eq start c) [
-    | inl here ↦
-        grind (arith, common_steps, count-yes, coins-none)
+    | inl here ↦ grind (arith, common_steps, count-yes, coins-none)
     | inr past ↦
         grind (arith, common_steps, coins-one n (start + 1) c v (omega arith) (omega arith) is passes fail, skip, past)
   ]
@@ -95,8 +83,7 @@ module _ (p : Verdict → Bool) (f : Named → List Verdict) (name : List ℕ)
       (names-flip name first.name (subst (λ (x : List ℕ). bytes_eq x first.name ≡ false) own
       (other-at first.name (cards rest) i (card node) distinct.0 (card-at rest i node is))))
       (wallets-one rest (k + 1) i node n distinct.1 is wallet own
-      (let on : k + 1 + i ≡ k + suc i = omega arith in
-      ap (λ (x : ℕ). count_by p (f (record { number = x; name = name }))) on ∙ count))
+      (grind (arith, common_steps)))
 
 -- ---- what a verdict is on
 
@@ -122,10 +109,7 @@ module _ (tests : Tests) (rules : Rules) (events : List Event) where
       → (verdict : Verdict) × (verdict_of tests rules events wallet c ≡ Some verdict)
   verdict-some wallet c me tip owner tip_is = (
     record { wallet = wallet.name; coin = c; kind = verdict_at tests rules events me wallet.number c tip },
-    ap (λ (o : Option Owner). option_and_then (λ me. verdict_on tests rules events wallet me c) o) owner
-        ∙ ap (λ (o : Option ℕ). option_map
-        (λ e. record { wallet = wallet.name; coin = c; kind = verdict_at tests rules events me wallet.number c e }) o)
-        tip_is,
+    grind (arith, common_steps),
   )
 
   -- ---- one verdict
@@ -144,10 +128,8 @@ module _ (tests : Tests) (rules : Rules) (events : List Event) where
       let is = verdict-is wallet c made.0 made.1 in
       coins-one (is_on wallet.name c) (verdict_of tests rules events wallet) (coins (log_of events)) 1 c made.0 low
       (omega arith) made.1
-      (and_from (bytes_eq made.0.wallet wallet.name) (made.0.coin == c)
-      (ap (λ (x : List ℕ). bytes_eq x wallet.name) is.name ∙ own-name wallet.name) (eq-eqb made.0.coin c is.coin))
-      (λ k other apart some. and_right (bytes_eq other.wallet wallet.name) (other.coin == c)
-      (ne_eqb other.coin c (λ same. apart (sym (verdict-is wallet k other some).coin ∙ same))))
+      (grind (arith, common_steps, and_from, own-name, eq-eqb))
+      (grind (arith, common_steps, and_right, ne_eqb, verdict-is))
 
   pub one-verdict : (nodes : List Node) (n c tip : ℕ) (node : Node) (me : Owner) → AreDistinct (cards nodes)
       → slice_get nodes n ≡ Some node → is_wallet_role node.role ≡ true → wallet_owner events n ≡ Some me
@@ -157,8 +139,7 @@ module _ (tests : Tests) (rules : Rules) (events : List Event) where
       let from : n ≡ 0 + n = omega arith in
       wallets-one (is_on node.name c) (verdicts_on tests rules events) node.name (others-none node.name c) nodes 0 n
       node 1 distinct is wallet refl
-      ((λ j. count_by (is_on node.name c)
-      (verdicts_on tests rules events (record { number = sym from j; name = node.name })))
+      ((grind (arith, common_steps))
       ∙ own-one c (record { number = n; name = node.name }) me tip owner tip_is low high)
 
 -- ---- where a verdict comes from

@@ -1,21 +1,9 @@
 -- A wallet and a coin that it ever held have one verdict, and each verdict is on such a coin at its greatest block.
-use Rattle.std.proofs.Common.{◌≡◌, ℕ, ◌+◌, ◌≤◌, true, List, [], ◌∷◌, slice_get, Contains, count_by, Option, Some, inl, inr, sym, ap, ◌∙◌, subst, arith, rules}
-use Rattle.std.specs.Option.{option_map_or}
-use Rattle.std.proofs.lemmas.Bool.{or_cases, false≢true, cases_eq, ne_eqb}
-use Rattle.std.proofs.lemmas.Grind.{common_steps}
-use Rattle.plasma_tx.specs.declared.call.RootCall.{RootCall}
+use Rattle.world_rules.proofs.Basics.{◌≡◌, ℕ, ◌+◌, ◌≤◌, true, List, [], ◌∷◌, slice_get, Contains, count_by, Option, Some, inl, inr, sym, ap, ◌∙◌, subst, arith, rules, option_map_or, or_cases, false≢true, cases_eq, ne_eqb, common_steps}
+use Rattle.world_rules.proofs.CoinWords.{RootCall, CoinView, coins, coin_at, some_same, tests_by, rules_of}
+use Rattle.world_rules.proofs.WorldWords.{Verdict, Event, log_of, Wallet, Node, World, is_wallet_role, Run, events_of, ever_held, held_tip, Named, verdict_of, verdicts_on, verdicts_in, verdicts_of, is_on, HeldCoinsHaveOneVerdict, IsOfHeld, VerdictsAreOfHeldCoins}
 use Rattle.plasma_tx.specs.declared.call.RootCall.TheVariants.{Deposit}
-use Rattle.plasma_tx.specs.declared.views.CoinView.{CoinView}
-use Rattle.plasma_tx.specs.Views.{coins, coin_at}
-use Rattle.plasma_tx.proofs.Names.{some_same}
-use Rattle.plasma_tx.specs.Shown.{tests_by, rules_of}
 use Rattle.plasma_tx.proofs.Bounds.{coin_at-le}
-use Rattle.world_rules.specs.declared.verdict.Verdict.{Verdict}
-use Rattle.world_rules.specs.Events.{Event, log_of}
-use Rattle.world_rules.specs.World.{Wallet, Node, World, is_wallet_role}
-use Rattle.world_rules.specs.Steps.{Run, events_of}
-use Rattle.world_rules.specs.Verdicts.{ever_held, held_tip, Named, verdict_of, verdicts_on, verdicts_in, verdicts_of}
-use Rattle.world_rules.specs.Laws.{is_on, HeldCoinsHaveOneVerdict, IsOfHeld, VerdictsAreOfHeldCoins}
 use Rattle.world_rules.proofs.HeldTips.{OwnersStay, IsCoin, IsTip, ever-tip, held_tip-is, held_tip-some}
 use Rattle.world_rules.proofs.Named.{Card, card, cards, card-at}
 use Rattle.world_rules.proofs.VerdictCounts.{IsVerdict, one-verdict, verdict-is, from-coin, from-wallet}
@@ -23,7 +11,7 @@ use Rattle.world_rules.proofs.KeptNames.{Kept}
 use Rattle.world_rules.proofs.NamedSteps.{run-kept}
 
 -- coins are counted from 1
-coin_at-positive : (log : List RootCall) (c : ℕ) (made : CoinView) → coin_at log c ≡ Some made → 1 ≤ c
+pub coin_at-positive : (log : List RootCall) (c : ℕ) (made : CoinView) → coin_at log c ≡ Some made → 1 ≤ c
 unfolding coin_at
 coin_at-positive [] c made is = absurd (cc is)
 coin_at-positive (Deposit account amount key ∷ log) c made is = elim (cases_eq c (coins log + 1)) [
@@ -87,5 +75,4 @@ verdicts_are_of_held_coins dig lines run world verdict ran world_is found =
     let coin = from-coin (verdict_of tests rules events wallet) (coins (log_of events)) 1 verdict from.among in
     let here : 0 + from.place ≡ from.place = omega arith in
     on-held dig run world verdict from.place from.node coin.0 kept.stay from.is_node
-    (subst (λ (k : ℕ). IsVerdict tests rules events (record { number = k; name = from.node.name }) coin.0 verdict)
-    here (verdict-is tests rules events wallet coin.0 verdict coin.1))
+    (grind (arith, common_steps, verdict-is))

@@ -1,39 +1,12 @@
 -- An accept keeps a wallet's records what the events say.
-use Rattle.std.proofs.Common.{◌≡◌, ℕ, ◌==◌, ◌&&◌, Bool, true, List, [], ◌∷◌, ◌++◌, inl, inr, refl, sym, subst, ◌⊎◌, lit<, arith}
-use Rattle.std.specs.Prelude.{Result, IfSome}
-use Rattle.std.specs.List.{list_any}
-use Rattle.std.proofs.lemmas.Bool.{eqb-true, eq-eqb, or_cases, or_left, or_right, and_parts, and_from, false≢true}
-use Rattle.std.proofs.lemmas.List.Folds.{list_any-append}
-use Rattle.std.proofs.lemmas.Grind.{common_steps}
-use Rattle.plasma_tx.specs.declared.owner.Owner.{Owner}
-use Rattle.plasma_tx.specs.declared.links.Links.{Links}
-use Rattle.plasma_tx.specs.declared.call.RootCall.{RootCall}
-use Rattle.plasma_tx.specs.Links.{tip_of, last_owner_of}
-use Rattle.coin_history.specs.declared.bundle.Bundle.{Bundle}
-use Rattle.wallet_core.specs.declared.notes.CoinTip.{CoinTip}
-use Rattle.wallet_core.specs.declared.notes.Notes.{Notes}
-use Rattle.wallet_core.specs.State.{is_noted, is_owner}
-use Rattle.node_rules.specs.declared.answers.Accepted.{Accepted}
-use Rattle.node_rules.specs.declared.refusal.WalletRefusal.{WalletRefusal}
-use Rattle.node_rules.specs.Kept.{kept_of}
-use Rattle.node_rules.specs.WalletRecords.{Accepts as AcceptsNote, note_text, owner_of, coin_tip}
-use Rattle.node_rules.specs.Wallet.{WalletRecords, WalletEffect, who, noted, accept_effect, is_known}
-use Rattle.node_rules.specs.WalletOpening.{is_wallet}
-use Rattle.node_rules.specs.WalletCommandLaws.{after, AddsAccepted}
-use Rattle.node_rules.proofs.WalletGrow.{state-accepts, noted-grow}
-use Rattle.node_rules.proofs.WalletRole.{accepts_keep_the_role, accepts_add_their_notes}
-use Rattle.world_rules.specs.Events.{Accepts, is_bundle}
-use Rattle.node_replies.specs.declared.order.WalletOrder.{WalletOrder}
-use Rattle.node_replies.specs.Orders.{on_accepted}
+use Rattle.world_rules.proofs.Basics.{◌≡◌, ℕ, ◌==◌, ◌&&◌, Bool, true, List, [], ◌∷◌, ◌++◌, inl, inr, refl, sym, subst, ◌⊎◌, lit<, arith, Result, IfSome, list_any, eqb-true, eq-eqb, or_cases, or_left, or_right, and_parts, and_from, false≢true, list_any-append, common_steps}
+use Rattle.world_rules.proofs.CoinWords.{Owner, Links, RootCall, tip_of, last_owner_of, Bundle, CoinTip, Notes, is_noted, is_owner}
+use Rattle.world_rules.proofs.NodeWords.{Accepted, WalletRefusal, kept_of, AcceptsNote, note_text, owner_of, coin_tip, WalletRecords, WalletEffect, who, noted, accept_effect, is_known, is_wallet, after, AddsAccepted, state-accepts, noted-grow, accepts_keep_the_role, accepts_add_their_notes, WalletOrder, on_accepted, Small, small-cons, small-bundle, AcceptEnds, Refused, Known, New, accept_ends, AddsNote}
+use Rattle.world_rules.proofs.WorldWords.{Accepts, is_bundle, bundle_read, event_of}
 use Rattle.world_rules.proofs.OrderEnds.{wallet_told}
-use Rattle.world_rules.specs.OrderEvents.{bundle_read, event_of}
-use Rattle.node_replies.proofs.ByteTexts.{Small, small-cons}
-use Rattle.node_replies.proofs.BundleTexts.{small-bundle}
 use Rattle.world_rules.proofs.Said.{Said, told}
 use Rattle.world_rules.proofs.Handed.{IsHanded, is_handed, IsKnownCoin, is_known_coin}
-use Rattle.node_replies.proofs.WalletEnds.{AcceptEnds, Refused, Known, New, accept_ends}
 use Rattle.world_rules.proofs.KeptWallet.{KeptWallet, state-me, with_note, noting}
-use Rattle.node_rules.specs.WalletLaws.{AddsNote}
 
 -- ---- noted tips with one more
 
@@ -58,7 +31,7 @@ known-more : (me : Owner) (log : List RootCall) (one other : Bool) (c e : ℕ) �
 known-more me log one other c e more known = grind (arith, common_steps, or_cases, or_left, or_right)
 
 -- the coin and the tip of a bundle
-bundle-is : (c e : ℕ) (bundle : Bundle) → is_bundle c e bundle ≡ true → (bundle.coin ≡ c) × (bundle.tip ≡ e)
+pub bundle-is : (c e : ℕ) (bundle : Bundle) → is_bundle c e bundle ≡ true → (bundle.coin ≡ c) × (bundle.tip ≡ e)
 bundle-is c e bundle is = grind (arith, common_steps, and_parts, eqb-true)
 
 module _ (dig : List ℕ → List ℕ) (s : Said) (log : List RootCall) (wallet : WalletRecords)
@@ -86,8 +59,7 @@ module _ (dig : List ℕ → List ℕ) (s : Said) (log : List RootCall) (wallet 
     taken = kept.taken;
     known = λ c e among.
         elim (or_cases (is_bundle c e (bundle_read bytes)) (list_any (is_bundle c e) s.accepted) among) [
-          | inl here ↦
-              grind (arith, common_steps, of-links, state-me, is_known_coin)
+          | inl here ↦ grind (arith, common_steps, of-links, state-me, is_known_coin)
           | inr before ↦ kept.known c e before
         ];
     noted = grind (arith, common_steps, or_right);
@@ -114,8 +86,7 @@ module _ (dig : List ℕ → List ℕ) (s : Said) (log : List RootCall) (wallet 
         taken = kept.taken;
         known = λ c e among.
             elim (or_cases (is_bundle c e (bundle_read bytes)) (list_any (is_bundle c e) s.accepted) among) [
-              | inl here ↦
-                  grind (arith, common_steps, of-links, or_right, noted-new, and_from, eq-eqb)
+              | inl here ↦ grind (arith, common_steps, of-links, or_right, noted-new, and_from, eq-eqb)
               | inr before ↦
                   known-more (owner_of (who wallet)) log (is_noted c e notes.accepted)
                   (is_noted c e (notes.accepted ++ new links ∷ [])) c e
@@ -126,8 +97,7 @@ module _ (dig : List ℕ → List ℕ) (s : Said) (log : List RootCall) (wallet 
               | inl before ↦
                   or_right (is_bundle c e (bundle_read bytes)) (list_any (is_bundle c e) s.accepted)
                   (kept.noted c e before)
-              | inr here ↦
-                  grind (arith, common_steps, and_parts, or_left, and_from, eq-eqb, eqb-true)
+              | inr here ↦ grind (arith, common_steps, and_parts, or_left, and_from, eq-eqb, eqb-true)
             ];
       })
     where

@@ -1,31 +1,11 @@
 -- A reclaim, a leave and a migration keep a wallet's records what the events say.
-use Rattle.std.proofs.Common.{◌≡◌, ℕ, ◌^◌, ◌<◌, ◌==◌, ◌||◌, Bool, true, List, [], ◌∷◌, ◌++◌, Option, Some, None, Ok, refl, sym, ap, ◌∙◌, subst, lit<, arith}
-use Rattle.std.specs.Prelude.{Result, IfSome}
-use Rattle.std.specs.Ordering.{nat_cmp}
-use Rattle.std.specs.BTreeSet.{insert_key}
-use Rattle.std.proofs.lemmas.Grind.{common_steps}
+use Rattle.world_rules.proofs.Basics.{◌≡◌, ℕ, ◌^◌, ◌<◌, ◌==◌, ◌||◌, Bool, true, List, [], ◌∷◌, ◌++◌, Option, Some, None, Ok, refl, sym, ap, ◌∙◌, subst, lit<, arith, Result, IfSome, nat_cmp, insert_key, common_steps}
+use Rattle.world_rules.proofs.CoinWords.{RootCall, blocks, Notes}
+use Rattle.world_rules.proofs.NodeWords.{Reclaimed, WalletRefusal, Reclaims, LeavesWith, note_text, coin_tip, WalletRecords, WalletEffect, noted, coin_state, leave_effect, reclaim_effect, migrate_effect, is_wallet, AddsNote, with_more, after, AddsLeaving, AddsReclaimed, AddsMarker, state-leaves, state-reclaims, noted-grow, leave-note, leave-leaf, migrate-note, leaves_keep_the_role, leaves_add_their_notes, reclaims_keep_the_role, reclaims_add_their_notes, migrations_keep_the_role, migrations_add_the_marker, WalletOrder, on_leaving, on_reclaimed, on_migrated, Small, small-cons, small-append, small-number, small-short, ReclaimEnds, Refused, Takes, reclaim_ends}
+use Rattle.world_rules.proofs.WorldWords.{TakesBack, bundle_read, event_of}
 use Rattle.leaf_journal.proofs.Binding.{marker-messages}
-use Rattle.plasma_tx.specs.declared.call.RootCall.{RootCall}
-use Rattle.plasma_tx.specs.Views.{blocks}
-use Rattle.wallet_core.specs.declared.notes.Notes.{Notes}
-use Rattle.node_rules.specs.declared.answers.Reclaimed.{Reclaimed}
-use Rattle.node_rules.specs.declared.refusal.WalletRefusal.{WalletRefusal}
-use Rattle.node_rules.specs.WalletRecords.{Reclaims, LeavesWith, note_text, coin_tip}
-use Rattle.node_rules.specs.Wallet.{WalletRecords, WalletEffect, noted, coin_state, leave_effect, reclaim_effect, migrate_effect}
-use Rattle.node_rules.specs.WalletOpening.{is_wallet}
-use Rattle.node_rules.specs.WalletLaws.{AddsNote}
-use Rattle.node_rules.specs.WalletCommandLaws.{with_more, after, AddsLeaving, AddsReclaimed, AddsMarker}
-use Rattle.node_rules.proofs.WalletGrow.{state-leaves, state-reclaims, noted-grow}
-use Rattle.node_rules.proofs.WalletAdded.{leave-note, leave-leaf, migrate-note}
-use Rattle.node_rules.proofs.WalletRole.{leaves_keep_the_role, leaves_add_their_notes, reclaims_keep_the_role, reclaims_add_their_notes, migrations_keep_the_role, migrations_add_the_marker}
-use Rattle.world_rules.specs.Events.{TakesBack}
-use Rattle.node_replies.specs.declared.order.WalletOrder.{WalletOrder}
-use Rattle.node_replies.specs.Orders.{on_leaving, on_reclaimed, on_migrated}
 use Rattle.world_rules.proofs.OrderEnds.{wallet_told}
-use Rattle.world_rules.specs.OrderEvents.{bundle_read, event_of}
-use Rattle.node_replies.proofs.ByteTexts.{Small, small-cons, small-append, small-number, small-short}
 use Rattle.world_rules.proofs.Said.{Said, told}
-use Rattle.node_replies.proofs.WalletEnds.{ReclaimEnds, Refused, Takes, reclaim_ends}
 use Rattle.world_rules.proofs.KeptWallet.{KeptWallet, with_note, noting}
 use Rattle.world_rules.proofs.WalletSends.{among-key, words}
 
@@ -112,8 +92,7 @@ module _ (dig : List ℕ → List ℕ) (s : Said) (log : List RootCall) (wallet 
         is = is;
         who_same = adds.0;
         now_is = grind (arith, common_steps, noted-grow, state-leaves);
-        small =
-            subst Small (sym text) (small-cons 3 (lit< tt) (small-append (small-number coin) (small-number tip)));
+        small = subst Small (sym text) (small-cons 3 (lit< tt) (small-append (small-number coin) (small-number tip)));
         owner = refl;
         bound = refl;
         taken = kept.taken;

@@ -1,42 +1,13 @@
 -- A send, a reclaim, a leave and a migration keep a wallet's records what the events say.
-use Rattle.std.proofs.Common.{◌≡◌, ℕ, ◌^◌, ◌<◌, ◌==◌, ◌||◌, true, List, [], ◌∷◌, ◌++◌, map, Option, refl, sym, ap, ◌∙◌, subst, arith}
-use Rattle.std.specs.Prelude.{Result, IfSome, reverse}
-use Rattle.std.specs.List.{list_any}
-use Rattle.std.specs.Ordering.{nat_cmp}
-use Rattle.std.specs.BTreeSet.{insert_key}
-use Rattle.std.proofs.lemmas.Bool.{eqb-true}
-use Rattle.std.proofs.lemmas.List.{reverse-append, map-append}
-use Rattle.std.proofs.lemmas.List.Elements.{All-from_recursion}
-use Rattle.std.proofs.lemmas.Grind.{common_steps}
-use Rattle.leaf_journal.specs.Records.{binding_record}
-use Rattle.lms_sign.specs.Tree.{signature_of}
-use Rattle.plasma_tx.specs.declared.owner.Owner.{Owner}
-use Rattle.plasma_tx.specs.declared.body.Body.{Body}
+use Rattle.world_rules.proofs.Basics.{◌≡◌, ℕ, ◌^◌, ◌<◌, ◌==◌, ◌||◌, true, List, [], ◌∷◌, ◌++◌, map, Option, refl, sym, ap, ◌∙◌, subst, arith, Result, IfSome, reverse, list_any, nat_cmp, insert_key, eqb-true, reverse-append, map-append, All-from_recursion, common_steps}
+use Rattle.world_rules.proofs.CoinWords.{signature_of, Owner, Body, RootCall, AreBytes, IsOwner, IsBody, body_text, signed_text, body_at_start, blocks, signed_in-text, signed_in-ok, all-weaker, LeafRecord}
+use Rattle.world_rules.proofs.NodeWords.{binding_record, Sent, WalletRefusal, secret_of, leaves_in, WalletRecords, WalletEffect, who, used, coin_state, send_effect, is_wallet, after, FitWords, sent_body, BindsBody, AddsSent, wallet-parts, sends_keep_the_role, sends_add_their_leaves, held-tip, WalletOrder, on_sent, Small, small-body, SendEnds, Refused, Sends, send_ends}
+use Rattle.world_rules.proofs.WorldWords.{Binds, event_of}
 use Rattle.plasma_tx.specs.declared.signed_tx.SignedTx.{SignedTx}
-use Rattle.plasma_tx.specs.declared.call.RootCall.{RootCall}
-use Rattle.plasma_tx.specs.Spelling.{AreBytes, IsOwner, IsBody, body_text, signed_text, body_at_start}
-use Rattle.plasma_tx.specs.Views.{blocks}
-use Rattle.plasma_tx.proofs.Spellings.{signed_in-text, signed_in-ok}
-use Rattle.plasma_tx.proofs.Each.{all-weaker}
-use Rattle.wallet_core.specs.declared.notes.LeafRecord.{LeafRecord}
 use Rattle.wallet_core.specs.declared.coin_state.CoinState.TheVariants.{Held}
-use Rattle.node_rules.specs.declared.answers.Sent.{Sent}
-use Rattle.node_rules.specs.declared.refusal.WalletRefusal.{WalletRefusal}
-use Rattle.node_rules.specs.WalletRecords.{secret_of, leaves_in}
-use Rattle.node_rules.specs.Wallet.{WalletRecords, WalletEffect, who, used, coin_state, send_effect}
-use Rattle.node_rules.specs.WalletOpening.{is_wallet}
-use Rattle.node_rules.specs.WalletCommandLaws.{after, FitWords, sent_body, BindsBody, AddsSent}
-use Rattle.node_rules.proofs.WalletGrow.{wallet-parts}
 use Rattle.node_rules.proofs.WalletTips.{tag-long, tip-fits}
-use Rattle.node_rules.proofs.WalletRole.{sends_keep_the_role, sends_add_their_leaves, held-tip}
-use Rattle.world_rules.specs.Events.{Binds}
-use Rattle.node_replies.specs.declared.order.WalletOrder.{WalletOrder}
-use Rattle.node_replies.specs.Orders.{on_sent}
 use Rattle.world_rules.proofs.OrderEnds.{wallet_told}
-use Rattle.world_rules.specs.OrderEvents.{event_of}
-use Rattle.node_replies.proofs.ByteTexts.{Small, small-body}
 use Rattle.world_rules.proofs.Said.{Said, told}
-use Rattle.node_replies.proofs.WalletEnds.{SendEnds, Refused, Sends, send_ends}
 use Rattle.world_rules.proofs.KeptWallet.{KeptWallet, records-push}
 
 -- ---- what the bytes of a transfer begin with
@@ -81,7 +52,7 @@ module _ (dig : List ℕ → List ℕ) (s : Said) (log : List RootCall) (wallet 
         KeptWallet dig (told (wallet_told n (WalletOrder.Send coin to last) on_sent effect.answer) s) log
         (after effect wallet)
 
-    sent-is : (tip : ℕ) → coin_state dig wallet log coin ≡ Held tip → IsBody (sent_body wallet coin tip to last)
+    pub sent-is : (tip : ℕ) → coin_state dig wallet log coin ≡ Held tip → IsBody (sent_body wallet coin tip to last)
     sent-is tip held = record {
       tag = tag-long dig wallet.notes (wallet-parts dig wallet kept.is).role;
       coin = coin_fits;
