@@ -1,14 +1,15 @@
 -- The standing that a coin's notes come to agrees with the events, at each of them.
-use Rattle.std.proofs.Common.{◌≡◌, ℕ, ◌+◌, ◌==◌, ◌&&◌, ◌||◌, Bool, true, false, List, [], ◌∷◌, ◌++◌, length, Option, Some, None, refl, ap, sym, ◌∙◌}
+use Rattle.std.proofs.Common.{◌≡◌, ℕ, ◌+◌, ◌==◌, ◌&&◌, ◌||◌, Bool, true, false, List, [], ◌∷◌, ◌++◌, length, Option, Some, None, refl, ap, sym, ◌∙◌, arith}
 use Rattle.std.specs.List.{list_any}
 use Rattle.std.proofs.lemmas.Bool.{eqb-true}
 use Rattle.std.proofs.lemmas.List.{length-map}
+use Rattle.std.proofs.lemmas.Grind.{common_steps}
 use Rattle.plasma_tx.specs.declared.call.RootCall.{RootCall}
 use Rattle.plasma_tx.specs.Views.{blocks, coins, coin_at, Exit, exit_at}
 use Rattle.plasma_tx.specs.Shown.{Tests, Rules}
 use Rattle.plasma_tx.specs.Table.{answer_to}
 use Rattle.plasma_tx.specs.RuleLaws.{pays_coin, was_paid}
-use Rattle.world_rules.specs.Events.{Event, Joins, Accepts, Binds, TakesBack, Watches, log_of, accepted, bound_by, taken_back, leaf_at, is_taken, not_taken, signed_away_by, is_bundle}
+use Rattle.world_rules.specs.Events.{Event, Joins, Accepts, Binds, TakesBack, Watches, log_of, accepted, bound_by, taken_back, leaf_at, not_taken, signed_away_by, is_bundle}
 use Rattle.world_rules.specs.Safety.{was_deposited}
 use Rattle.world_rules.specs.Verdicts.{is_finish_paid}
 use Rattle.coin_verdicts.specs.declared.fact.Fact.{Fact}
@@ -81,9 +82,7 @@ module _ (tests : Tests) (rules : Rules) (holder : Holder) (c e : ℕ) where
         → Agrees dep acc sent out
         (standing_in holder e (noted (length facts + 1) (changes_in facts c (ended found coin block false))
         ++ notes_in facts c))
-    ended-unpaid found coin block =
-        let after = ended-step found coin block false (λ none. refl) in
-        rw (and-false (coin == c)) at after
+    ended-unpaid found coin block = grind (arith, common_steps, ended-step, and-false) steps 20000
 
     call-step : (call : RootCall) (fact : Fact) → IsFact tests rules events (Joins call) fact
         → AgreesAt rules (Joins call ∷ events) holder c e (standing (fact ∷ facts))
@@ -128,10 +127,7 @@ module _ (tests : Tests) (rules : Rules) (holder : Holder) (c e : ℕ) where
         rw h (after-binds holder e (length facts + 1) (notes_in facts c) dep acc sent out same v c
         (has (taken_in facts v) (length (bound_in facts v))) (taken_back events holder.wallet) body
         (bound_by events holder.wallet)
-        (λ own. let is : v ≡ holder.wallet = eqb-true v holder.wallet own in
-        ap (λ w. is_taken (taken_back events w) (length (bound_by events w))) (sym is)
-        ∙ ap (λ n. is_taken (taken_back events v) n) (sym (bound-length v))
-        ∙ ap (λ (ns : List ℕ). has ns (length (bound_in facts v))) (sym (taken-same tests rules events facts v are)))
+        (grind (arith, common_steps, eqb-true, bound-length, taken-same) steps 20000)
         refl)
     event-step (TakesBack v q bundle) fact h =
         rw (
@@ -142,9 +138,7 @@ module _ (tests : Tests) (rules : Rules) (holder : Holder) (c e : ℕ) where
         (after-returns holder e (length facts + 1) (notes_in facts c) dep acc sent out same v c q
         (has (taken_in facts v) q) (taken_back events holder.wallet) (bound_by events holder.wallet)
         (leaf_at q (bound_by events v))
-        (λ own. let is : v ≡ holder.wallet = eqb-true v holder.wallet own in
-        ap (λ w. is_taken (taken_back events w) q) (sym is)
-        ∙ ap (λ (ns : List ℕ). has ns q) (sym (taken-same tests rules events facts v are)))
+        (grind (arith, common_steps, eqb-true, taken-same) steps 20000)
         (λ own. ap (λ w. leaf_at q (bound_by events w)) (sym (eqb-true v holder.wallet own)))
         refl)
     event-step (Watches n calls) fact h = rw (watch-form n calls fact h).is same

@@ -1,7 +1,8 @@
 -- What a standing says of what the wallet has is what the events say.
-use Rattle.std.proofs.Common.{◌≡◌, ℕ, ◌+◌, ◌-◌, ◌==◌, ◌&&◌, ◌||◌, not, Bool, true, false, if◌then◌else◌, List, [], ◌∷◌, ◌++◌, length, Option, Some, None, refl, ap, sym, ◌∙◌, arith}
+use Rattle.std.proofs.Common.{◌≡◌, ℕ, ◌+◌, ◌-◌, ◌==◌, ◌&&◌, ◌||◌, not, Bool, true, false, if◌then◌else◌, List, [], ◌∷◌, ◌++◌, length, Option, Some, None, refl, sym, ◌∙◌, arith}
 use Rattle.std.specs.Prelude.{option_map}
 use Rattle.std.specs.List.{list_any}
+use Rattle.std.proofs.lemmas.Grind.{common_steps}
 use Rattle.plasma_tx.specs.declared.owner.Owner.{Owner}
 use Rattle.plasma_tx.specs.declared.body.Body.{Body}
 use Rattle.plasma_tx.specs.declared.views.CoinView.{CoinView}
@@ -37,18 +38,8 @@ module _ (holder : Holder) (e line : ℕ) (notes : List Note) (dep acc : Bool) (
       → Agrees (was_deposited holder.owner e
       (if b then Some (record { deposit = block; amount = amount; owner = owner }) else made)) acc sent out
       (if b then next (Change.Deposits block owner) else standing_in holder e notes)
-  deposits-at true block amount owner made was = record {
-    deposited_is = refl;
-    accepted_is = same.accepted_is;
-    sent_is = same.sent_is;
-    withdrawn_is = same.withdrawn_is;
-  }
-  deposits-at false block amount owner made was = record {
-    deposited_is = same.deposited_is ∙ sym was;
-    accepted_is = same.accepted_is;
-    sent_is = same.sent_is;
-    withdrawn_is = same.withdrawn_is;
-  }
+  deposits-at true block amount owner made was = grind (arith, common_steps) steps 20000
+  deposits-at false block amount owner made was = grind (arith, common_steps) steps 20000
 
   pub after-deposits : (b : Bool) (block amount : ℕ) (owner : Owner) (made : Option CoinView)
       → was_deposited holder.owner e made ≡ dep
@@ -62,37 +53,15 @@ module _ (holder : Holder) (e line : ℕ) (notes : List Note) (dep acc : Bool) (
       → (v == holder.wallet) ≡ d → list_any (is_bundle c e) bundles ≡ acc
       → Agrees dep (list_any (is_bundle c e) (if d then bundle ∷ bundles else bundles)) sent out
       (if b then next (Change.Accepts v bundle.tip) else standing_in holder e notes)
-  accepts-at true true v c bundle bundles coin own was = record {
-    deposited_is = same.deposited_is;
-    accepted_is = rw (own, coin, was, same.accepted_is) (or-comm acc (bundle.tip == e));
-    sent_is = same.sent_is;
-    withdrawn_is = same.withdrawn_is;
-  }
-  accepts-at true false v c bundle bundles coin own was = record {
-    deposited_is = same.deposited_is;
-    accepted_is = rw (own, was, same.accepted_is) (or-false acc);
-    sent_is = same.sent_is;
-    withdrawn_is = same.withdrawn_is;
-  }
-  accepts-at false true v c bundle bundles coin own was = record {
-    deposited_is = same.deposited_is;
-    accepted_is = rw (coin, was) same.accepted_is;
-    sent_is = same.sent_is;
-    withdrawn_is = same.withdrawn_is;
-  }
-  accepts-at false false v c bundle bundles coin own was = record {
-    deposited_is = same.deposited_is;
-    accepted_is = same.accepted_is ∙ sym was;
-    sent_is = same.sent_is;
-    withdrawn_is = same.withdrawn_is;
-  }
+  accepts-at true true v c bundle bundles coin own was = grind (arith, common_steps, or-comm) steps 20000
+  accepts-at true false v c bundle bundles coin own was = grind (arith, common_steps, or-false) steps 20000
+  accepts-at false true v c bundle bundles coin own was = grind (arith, common_steps) steps 20000
+  accepts-at false false v c bundle bundles coin own was = grind (arith, common_steps) steps 20000
 
   pub after-accepts : (v c : ℕ) (bundle : Bundle) (bundles : List Bundle) → list_any (is_bundle c e) bundles ≡ acc
       → Agrees dep (list_any (is_bundle c e) (if v == holder.wallet then bundle ∷ bundles else bundles)) sent out
       (standing_in holder e (noted line (where_so (bundle.coin == c) (Change.Accepts v bundle.tip)) ++ notes))
-  after-accepts v c bundle bundles was =
-      rw (after-where holder e line (bundle.coin == c) (Change.Accepts v bundle.tip) notes)
-      (accepts-at (bundle.coin == c) (v == holder.wallet) v c bundle bundles refl refl was)
+  after-accepts v c bundle bundles was = grind (arith, common_steps, after-where, accepts-at) steps 20000
 
   -- a leaf is bound or taken back: nothing else changes
   of-sent : (change : Change) (b : Bool) (count : ℕ)
@@ -101,58 +70,32 @@ module _ (holder : Holder) (e line : ℕ) (notes : List Note) (dep acc : Bool) (
       → ((if b then next change else standing_in holder e notes).withdrawn ≡ (standing_in holder e notes).withdrawn)
       → (if b then next change else standing_in holder e notes).sent ≡ count
       → Agrees dep acc count out (if b then next change else standing_in holder e notes)
-  of-sent change b count d a w s = record {
-    deposited_is = d ∙ same.deposited_is;
-    accepted_is = a ∙ same.accepted_is;
-    sent_is = s;
-    withdrawn_is = w ∙ same.withdrawn_is;
-  }
+  of-sent change b count d a w s = grind (arith, common_steps) steps 20000
 
   sends-so : (b : Bool) (v p count : ℕ)
       → (if b then (if (v == holder.wallet) && (p == e) then sent + 1 else sent) else sent) ≡ count
       → Agrees dep acc count out (if b then next (Change.Sends v p) else standing_in holder e notes)
-  sends-so true v p count is =
-      of-sent (Change.Sends v p) true count refl refl refl
-      (ap (λ n. if (v == holder.wallet) && (p == e) then n + 1 else n) same.sent_is ∙ is)
+  sends-so true v p count is = grind (arith, common_steps, of-sent) steps 20000
   sends-so false v p count is = of-sent (Change.Sends v p) false count refl refl refl (same.sent_is ∙ is)
 
   returns-so : (b : Bool) (v p count : ℕ)
       → (if b then (if (v == holder.wallet) && (p == e) then sent - 1 else sent) else sent) ≡ count
       → Agrees dep acc count out (if b then next (Change.Returns v p) else standing_in holder e notes)
-  returns-so true v p count is =
-      of-sent (Change.Returns v p) true count refl refl refl
-      (ap (λ n. if (v == holder.wallet) && (p == e) then n - 1 else n) same.sent_is ∙ is)
+  returns-so true v p count is = grind (arith, common_steps, of-sent) steps 20000
   returns-so false v p count is = of-sent (Change.Returns v p) false count refl refl refl (same.sent_is ∙ is)
 
   -- how the count of leaves that sign the coin away changes, by the tests of a body that is bound
   bound-count : (k t d p : Bool) (n : ℕ)
       → (if k && not t then (if d && p then n + 1 else n) else n)
       ≡ (if d then (if t then 0 else one_if (k && p)) + n else n)
-  bound-count true true true p n = omega arith
-  bound-count true true false p n = refl
-  bound-count true false true true n = omega arith
-  bound-count true false true false n = omega arith
-  bound-count true false false p n = refl
-  bound-count false t true p n = at t
-    where
-      at : (t : Bool) → n ≡ (if t then 0 else 0) + n
-      at true = omega arith
-      at false = omega arith
-  bound-count false t false p n = refl
+  bound-count k t d p n = grind (arith, common_steps) steps 20000
 
   not_taken-count : (c : ℕ) (taken : List ℕ) (body : Body) (bodies : List Body) (d t : Bool)
       → (d ≡ true → is_taken taken (length bodies) ≡ t) → count_of (is_body c e) (not_taken taken bodies) ≡ sent
       → count_of (is_body c e) (not_taken taken (if d then body ∷ bodies else bodies))
       ≡ (if d then (if t then 0 else one_if (is_body c e body)) + sent else sent)
   unfolding not_taken
-  not_taken-count c taken body bodies true t is was = rw (is refl) (at t)
-    where
-      at : (t : Bool)
-          → count_of (is_body c e) (if t then not_taken taken bodies else body ∷ not_taken taken bodies)
-          ≡ (if t then 0 else one_if (is_body c e body)) + sent
-      at true = omega arith
-      at false = ap (λ n. one_if (is_body c e body) + n) was
-  not_taken-count c taken body bodies false t is was = was
+  not_taken-count c taken body bodies d t is was = grind (arith, common_steps, count_of, is_body, one_if) steps 20000
 
   pub after-binds : (v c : ℕ) (t : Bool) (taken : List ℕ) (body : Body) (bodies : List Body)
       → ((v == holder.wallet) ≡ true → is_taken taken (length bodies) ≡ t)
@@ -161,49 +104,25 @@ module _ (holder : Holder) (e line : ℕ) (notes : List Note) (dep acc : Bool) (
       (count_of (is_body c e) (not_taken taken (if v == holder.wallet then body ∷ bodies else bodies))) out
       (standing_in holder e (noted line (where_so ((body.coin == c) && not t) (Change.Sends v body.parent)) ++ notes))
   after-binds v c t taken body bodies is was =
-      rw (after-where holder e line ((body.coin == c) && not t) (Change.Sends v body.parent) notes)
-      (sends-so ((body.coin == c) && not t) v body.parent _
-      (bound-count (body.coin == c) t (v == holder.wallet) (body.parent == e) sent
-      ∙ sym (not_taken-count c taken body bodies (v == holder.wallet) t is was)))
+      grind (arith, common_steps, after-where, sends-so, bound-count, not_taken-count) steps 20000
 
   -- and of one that is taken back
   returned-count : (k d p : Bool) (n m : ℕ) → (d ≡ true → n ≡ m + one_if (k && p)) → (d ≡ false → n ≡ m)
       → (if k then (if d && p then n - 1 else n) else n) ≡ m
-  returned-count true true true n m own other = let is : n ≡ m + 1 = own refl in omega arith
-  returned-count true true false n m own other = let is : n ≡ m + 0 = own refl in omega arith
-  returned-count true false p n m own other = other refl
-  returned-count false true p n m own other = let is : n ≡ m + 0 = own refl in omega arith
-  returned-count false false p n m own other = other refl
+  returned-count k d p n m own other = grind (arith, common_steps) steps 20000
 
   stays-so : (count : ℕ) → sent ≡ count → Agrees dep acc count out (standing_in holder e notes)
-  stays-so count is = record {
-    deposited_is = same.deposited_is;
-    accepted_is = same.accepted_is;
-    sent_is = same.sent_is ∙ is;
-    withdrawn_is = same.withdrawn_is;
-  }
+  stays-so count is = grind (arith, common_steps) steps 20000
 
   returns-at : (v c count : ℕ) (t : Bool) (found : Option Body)
       → ((v == holder.wallet) ≡ true → sent ≡ count + gone (is_body c e) t found)
       → ((v == holder.wallet) ≡ false → sent ≡ count)
       → Agrees dep acc count out
       (standing_in holder e (noted line (if t then [] else returned c v (option_map leaf_of found)) ++ notes))
-  returns-at v c count true found own other =
-      stays-so count (elim (v == holder.wallet) as (λ b. ((b ≡ true) → sent ≡ count + 0) → ((b ≡ false) → sent ≡ count)
-      → sent ≡ count) [
-        | true ↦ λ yes no. let is : sent ≡ count + 0 = yes refl in omega arith
-        | false ↦ λ yes no. no refl
-      ] own other)
-  returns-at v c count false None own other =
-      stays-so count (elim (v == holder.wallet) as (λ b. ((b ≡ true) → sent ≡ count + 0) → ((b ≡ false) → sent ≡ count)
-      → sent ≡ count) [
-        | true ↦ λ yes no. let is : sent ≡ count + 0 = yes refl in omega arith
-        | false ↦ λ yes no. no refl
-      ] own other)
+  returns-at v c count true found own other = grind (arith, common_steps, stays-so) steps 20000
+  returns-at v c count false None own other = grind (arith, common_steps, stays-so) steps 20000
   returns-at v c count false (Some body) own other =
-      rw (after-where holder e line (body.coin == c) (Change.Returns v body.parent) notes)
-      (returns-so (body.coin == c) v body.parent count
-      (returned-count (body.coin == c) (v == holder.wallet) (body.parent == e) sent count own other))
+      grind (arith, common_steps, after-where, returns-so, returned-count) steps 20000
 
   pub after-returns : (v c q : ℕ) (t : Bool) (taken : List ℕ) (bodies : List Body) (found : Option Body)
       → ((v == holder.wallet) ≡ true → is_taken taken q ≡ t) → ((v == holder.wallet) ≡ true → leaf_at q bodies ≡ found)
@@ -213,23 +132,13 @@ module _ (holder : Holder) (e line : ℕ) (notes : List Note) (dep acc : Bool) (
       (standing_in holder e (noted line (if t then [] else returned c v (option_map leaf_of found)) ++ notes))
   after-returns v c q t taken bodies found is at was =
       returns-at v c _ t found
-      (λ own. rw own (sym was ∙ taken-count (is_body c e) taken q bodies
-      ∙ ap (λ (b : Bool). count_of (is_body c e) (not_taken (q ∷ taken) bodies) + gone (is_body c e) b
-      (leaf_at q bodies))
-      (is own)
-      ∙ ap (λ (o : Option Body). count_of (is_body c e) (not_taken (q ∷ taken) bodies) + gone (is_body c e) t o)
-      (at own)))
+      (grind (arith, common_steps, taken-count, is_body, count_of, gone) steps 20000)
       (λ apart. rw apart (sym was))
 
   ends-at : (b : Bool) (block account : ℕ) (paid : Bool)
       → Agrees dep acc sent ((b && paid) || out)
       (if b then next (Change.Ends block account paid) else standing_in holder e notes)
-  ends-at true block account paid = record {
-    deposited_is = same.deposited_is;
-    accepted_is = same.accepted_is;
-    sent_is = same.sent_is;
-    withdrawn_is = ap (λ o. o || paid) same.withdrawn_is ∙ or-comm out paid;
-  }
+  ends-at true block account paid = grind (arith, common_steps, or-comm) steps 20000
   ends-at false block account paid = same
 
   pub after-ends : (b : Bool) (block account : ℕ) (paid : Bool)
@@ -240,10 +149,4 @@ module _ (holder : Holder) (e line : ℕ) (notes : List Note) (dep acc : Bool) (
 
   pub meets-at : (b : Bool) (nodes tips : List ℕ)
       → Agrees dep acc sent out (if b then next (Change.Meets nodes tips) else standing_in holder e notes)
-  meets-at true nodes tips = record {
-    deposited_is = same.deposited_is;
-    accepted_is = same.accepted_is;
-    sent_is = same.sent_is;
-    withdrawn_is = same.withdrawn_is;
-  }
-  meets-at false nodes tips = same
+  meets-at b nodes tips = grind (arith, common_steps) steps 20000

@@ -1,7 +1,8 @@
 -- What notes of ticks leave of the books.
-use Rattle.std.proofs.Common.{◌≡◌, ◌⊎◌, ℕ, ◌==◌, Bool, true, false, if◌then◌else◌, List, [], ◌∷◌, ◌++◌, Option, Some, None, inl, inr, refl, ap, sym, ◌∙◌}
+use Rattle.std.proofs.Common.{◌≡◌, ◌⊎◌, ℕ, ◌==◌, if◌then◌else◌, List, [], ◌∷◌, ◌++◌, Option, Some, None, inl, inr, refl, ap, sym, ◌∙◌, arith}
 use Rattle.std.specs.Prelude.{option_map}
 use Rattle.std.proofs.lemmas.Bool.{cases_eq, eq-eqb, ne_eqb}
+use Rattle.std.proofs.lemmas.Grind.{common_steps}
 use Rattle.coin_verdicts.specs.declared.note.Change.{Change}
 use Rattle.coin_verdicts.specs.declared.note.Quiet.{Quiet}
 use Rattle.coin_verdicts.specs.Notes.{meets, each_time}
@@ -11,25 +12,11 @@ each-last : (c x : ℕ) (change : Change) (xs : List ℕ)
     → each_time c change (xs ++ x ∷ [])
     ≡ (if x == c then change ∷ each_time c change xs else each_time c change xs)
 each-last c x change [] = refl
-each-last c x change (m ∷ ms) = at (m == c) (x == c) (each-last c x change ms)
-  where
-    at : (b d : Bool)
-        → each_time c change (ms ++ x ∷ []) ≡ (if d then change ∷ each_time c change ms else each_time c change ms)
-        → (if b then change ∷ each_time c change (ms ++ x ∷ []) else each_time c change (ms ++ x ∷ []))
-        ≡ (if d then change ∷ (if b then change ∷ each_time c change ms else each_time c change ms)
-        else (if b then change ∷ each_time c change ms else each_time c change ms))
-    at true true rest = ap (λ changes. change ∷ changes) rest
-    at true false rest = ap (λ changes. change ∷ changes) rest
-    at false true rest = rest
-    at false false rest = rest
+each-last c x change (m ∷ ms) = grind (arith, common_steps, each-last c x change ms) steps 20000
 
 pub met-none : (line : ℕ) (wallets : List ℕ) (nodes : List Quiet) (books : List CoinBook)
     → AreMet line wallets nodes [] books books
-met-none line wallets nodes books c = at (book_at books c)
-  where
-    at : (o : Option CoinBook) → o ≡ option_map (with_each line c wallets nodes []) o
-    at None = refl
-    at (Some book) = refl
+met-none line wallets nodes books c = grind (arith, common_steps) steps 20000
 
 -- a tick meets a deadline of one more coin
 pub met-more : (line : ℕ) (wallets : List ℕ) (nodes : List Quiet) (xs : List ℕ) (x : ℕ)

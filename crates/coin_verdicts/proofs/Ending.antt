@@ -1,14 +1,15 @@
 -- What a standing says at the end is the verdict.
-use Rattle.std.proofs.Common.{◌≡◌, ◌⊎◌, inl, inr, ℕ, ◌+◌, ◌<◌, ◌≤◌, ◌==◌, ◌&&◌, ◌||◌, not, Bool, true, false, if◌then◌else◌, List, [], ◌∷◌, length, Option, Some, None, refl, ap, sym, ◌∙◌, arith}
+use Rattle.std.proofs.Common.{◌≡◌, ◌⊎◌, inl, inr, ℕ, ◌+◌, ◌<◌, ◌≤◌, ◌&&◌, ◌||◌, Bool, true, false, if◌then◌else◌, List, [], ◌∷◌, length, Option, Some, None, refl, ap, ◌∙◌, arith}
 use Rattle.std.specs.Prelude.{nat_lt}
 use Rattle.std.specs.Option.{option_or}
 use Rattle.std.proofs.lemmas.Bool.{false≢true, ltb-true, lt-ltb}
+use Rattle.std.proofs.lemmas.Grind.{common_steps}
 use Rattle.plasma_tx.specs.Shown.{Tests, Rules}
 use Rattle.plasma_tx.specs.Table.{IsLegal}
 use Rattle.world_rules.specs.declared.verdict.VerdictKind.{VerdictKind}
-use Rattle.world_rules.specs.Events.{Event, Joins, log_of, signed_away_by, is_sent_from}
-use Rattle.world_rules.specs.Safety.{holds, goes_unattended}
-use Rattle.world_rules.specs.Verdicts.{ever_held, pays_own, takes_from, before_taking, first_unattended, exit_was_paid, lost_or, taken_or, verdict_at}
+use Rattle.world_rules.specs.Events.{Event, Joins, log_of}
+use Rattle.world_rules.specs.Safety.{goes_unattended}
+use Rattle.world_rules.specs.Verdicts.{ever_held, takes_from, before_taking, first_unattended, exit_was_paid, lost_or, taken_or, verdict_at}
 use Rattle.coin_verdicts.specs.declared.fact.Fact.{Fact}
 use Rattle.coin_verdicts.specs.declared.note.Holder.{Holder}
 use Rattle.coin_verdicts.specs.declared.note.Standing.{Standing}
@@ -61,39 +62,13 @@ module _ (tests : Tests) (rules : Rules) (holder : Holder) (c e : ℕ) where
       → TakenAs before events s
       → TakenAs (option_or before (if taking then Some events else None)) (event ∷ events) after
   unfolding first_unattended
-  taking-step (Some before) events event line taking unattended s after is taken at apart goes was = (
-    taken ∙ ap (λ b. b || taking) was.0,
-    was.1 ∙ sym (at ∙ ap (missed_by s.unattended line unattended) was.0),
-  )
-  taking-step None events event line true unattended s after is taken at apart goes was = (
-    taken ∙ ap (λ b. b || true) was.0,
-    was.1 ∙ sym (at ∙ ap (missed_by s.unattended line unattended) was.0
-        ∙ ap (λ (b : Bool). option_or s.unattended (if b then Some line else None)) (apart refl)
-        ∙ or-none s.unattended),
-  )
-  taking-step None events event line false unattended s after is taken at apart goes was = (
-    taken ∙ ap (λ b. b || false) was.0,
-    ap (λ o. option_or o (if goes_unattended events holder.wallet c e event then Some (length events + 1) else None))
-        was.1
-        ∙ ap (λ (b : Bool). option_or s.unattended (if b then Some (length events + 1) else None)) goes
-        ∙ ap (λ (n : ℕ). option_or s.unattended (if unattended then Some n else None)) (sym is)
-        ∙ sym (at ∙ ap (missed_by s.unattended line unattended) was.0),
-  )
+  taking-step before events event line taking unattended s after is taken at apart goes was =
+      grind (arith, common_steps, or-none) steps 20000
 
   -- where no note came, time alone may have made the wallet a holder
   ever-kept : (was now has ever : Bool) → (was ≡ true → now ≡ true)
       → ((now && has) || (ever || (was && has))) ≡ (ever || (now && has))
-  ever-kept true true true true later = refl
-  ever-kept true true true false later = refl
-  ever-kept true true false true later = refl
-  ever-kept true true false false later = refl
-  ever-kept true false has ever later = absurd (false≢true (later refl))
-  ever-kept false true true true later = refl
-  ever-kept false true true false later = refl
-  ever-kept false true false true later = refl
-  ever-kept false true false false later = refl
-  ever-kept false false has true later = refl
-  ever-kept false false has false later = refl
+  ever-kept was now has ever later = grind (arith, common_steps, false≢true) steps 20000
 
   later-line : (line : ℕ) → nat_lt holder.since line ≡ true → nat_lt holder.since (line + 1) ≡ true
   later-line line is =
@@ -105,12 +80,8 @@ module _ (tests : Tests) (rules : Rules) (holder : Holder) (c e : ℕ) where
       → now ≡ is_held_at holder (line + 1) after → was ≡ (s.ever_held || is_held_at holder line s)
       → (now || was) ≡ (after.ever_held || is_held_at holder (line + 1) after)
   ever-step now was line s after (inl same) now_is was_is =
-      rw (now_is, was_is, same.0, same.1)
-      (ever-kept (nat_lt holder.since line) (nat_lt holder.since (line + 1)) (has_coin s) s.ever_held
-      (later-line line))
-  ever-step now was line s after (inr noted) now_is was_is =
-      rw (now_is, was_is, noted)
-      (or-comm (is_held_at holder (line + 1) after) (s.ever_held || is_held_at holder line s))
+      grind (arith, common_steps, ever-kept, later-line) steps 20000
+  ever-step now was line s after (inr noted) now_is was_is = grind (arith, common_steps, or-comm) steps 20000
 
   abbrev standing : List Fact → Standing
   standing facts = standing_in holder e (notes_in facts c)
@@ -135,15 +106,8 @@ module _ (tests : Tests) (rules : Rules) (holder : Holder) (c e : ℕ) where
       let after = standing (fact ∷ facts) in
       let more : length (fact ∷ facts) + 1 ≡ (length facts + 1) + 1 = omega arith in
       record {
-        paid_is =
-            ap (λ b. pays_own tests rules (log_of events) holder.owner c e event || b) was.paid_is
-            ∙ or-comm (pays_own tests rules (log_of events) holder.owner c e event) (standing facts).paid
-            ∙ sym does.paid_is;
-        ever_is =
-            ever-step (holds (event ∷ events) holder.wallet c e) (ever_held events holder.wallet c e)
-            (length facts + 1) (standing facts) after does.ever_is
-            (now ∙ ap (λ (n : ℕ). is_held_at holder n after) more) was.ever_is
-            ∙ ap (λ (n : ℕ). after.ever_held || is_held_at holder n after) (sym more);
+        paid_is = grind (arith, common_steps, or-comm) steps 20000;
+        ever_is = grind (arith, common_steps, ever-step) steps 20000;
         taken_is = taking-step (before_taking tests rules events holder.owner holder.wallet c e) events event
             (length facts + 1) (takes_from tests rules events holder.owner holder.wallet c e event)
             (goes_unattended events holder.wallet c e event) (standing facts) (standing (fact ∷ facts))
@@ -166,21 +130,11 @@ module _ (tests : Tests) (rules : Rules) (holder : Holder) (c e : ℕ) where
     taken-kind : (before : Option (List Event)) → TakenAs before events (standing facts)
         → taken_or before holder.wallet c e
         ≡ (if (standing facts).taken then lost_or (standing facts).unattended else VerdictKind.Held)
-    taken-kind None was =
-        ap (λ (b : Bool). if b then lost_or (standing facts).unattended else VerdictKind.Held) (sym was.0)
-    taken-kind (Some before) was =
-        ap lost_or was.1
-        ∙ ap (λ (b : Bool). if b then lost_or (standing facts).unattended else VerdictKind.Held) (sym was.0)
+    taken-kind before was = grind (arith, common_steps) steps 20000
 
     pub kind-same : verdict_at tests rules events holder.owner holder.wallet c e ≡ kind_of (standing facts)
     unfolding verdict_at
     kind-same =
         let was = judged events facts are legal so in
         let same = agreed tests rules holder c e events facts are in
-        let sent : is_sent_from (signed_away_by events holder.wallet) c e ≡ not ((standing facts).sent == 0) =
-        sent-counted c e (signed_away_by events holder.wallet) ∙ ap (λ n. not (n == 0)) (sym same.sent_is) in
-        rw (
-          sent,
-          was.paid_is,
-          taken-kind (before_taking tests rules events holder.owner holder.wallet c e) was.taken_is,
-        ) refl
+        grind (arith, common_steps, sent-counted, taken-kind) steps 20000

@@ -1,6 +1,7 @@
 -- The forms of facts.
-use Rattle.std.proofs.Common.{◌≡◌, ℕ, ◌==◌, Bool, true, false, List, [], ◌∷◌, length, suc, Option, Some, None, refl, ap}
+use Rattle.std.proofs.Common.{◌≡◌, ℕ, ◌==◌, Bool, true, false, List, [], ◌∷◌, length, suc, Option, Some, None, refl, ap, arith}
 use Rattle.std.specs.List.{list_any}
+use Rattle.std.proofs.lemmas.Grind.{common_steps}
 use Rattle.plasma_tx.specs.declared.call.RootCall.{RootCall}
 use Rattle.plasma_tx.specs.Views.{Exit, exit_at}
 use Rattle.plasma_tx.specs.Shown.{Tests, Rules}
@@ -35,9 +36,7 @@ pub record WatchForm (n : ℕ) (calls : List RootCall) (fact : Fact) : Type 0 wh
   pub those : AreThose (λ c. list_any (λ call. coin_of_call call == c) calls) coins
 
 pub watch-form : (n : ℕ) (calls : List RootCall) (fact : Fact) → IsWatch n calls fact → WatchForm n calls fact
-watch-form n calls (Fact.Watches node coins) h =
-    record { coins = coins; is = ap (λ k. Fact.Watches k coins) h.0; those = h.1 }
-watch-form n calls fact h = elim h [ ]
+watch-form n calls fact h = grind (arith, common_steps) steps 20000
 
 ended-of_call : (found : Option Exit) (coin block : ℕ) (paid : Bool) → is_of_call (ended found coin block paid) ≡ true
 ended-of_call None coin block paid = refl

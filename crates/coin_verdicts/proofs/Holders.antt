@@ -2,6 +2,7 @@
 use Rattle.std.proofs.Common.{◌≡◌, ℕ, ◌+◌, ◌<◌, ◌≤◌, ◌==◌, Bool, true, false, if◌then◌else◌, List, [], ◌∷◌, length, Option, Some, None, refl, ap, sym, ◌∙◌, arith}
 use Rattle.std.specs.Prelude.{nat_lt}
 use Rattle.std.proofs.lemmas.Bool.{false≢true, lt-ltb, le-ltb}
+use Rattle.std.proofs.lemmas.Grind.{common_steps}
 use Rattle.plasma_tx.specs.declared.owner.Owner.{Owner}
 use Rattle.plasma_tx.specs.Shown.{Tests, Rules}
 use Rattle.world_rules.specs.Events.{Event, Declares, Joins, Watches, log_of, wallet_owner}
@@ -42,11 +43,7 @@ pub data Declared (events : List Event) (w : ℕ) (found : Option Holder) : Type
       → Declared events w found
 
 call-declares : (fact : Fact) (w line : ℕ) → is_of_call fact ≡ true → declared w line fact ≡ None
-call-declares (Fact.Deposits coin block owner) w line h = refl
-call-declares (Fact.Ticks met) w line h = refl
-call-declares (Fact.Ends coin block account paid) w line h = refl
-call-declares Fact.Joins w line h = refl
-call-declares fact w line h = absurd (false≢true h)
+call-declares fact w line h = grind (arith, common_steps, false≢true) steps 20000
 
 module _ (tests : Tests) (rules : Rules) where
   first-step : (event : Event) (events : List Event) (fact : Fact) (w line : ℕ) → line ≡ length events + 1
@@ -85,8 +82,7 @@ module _ (tests : Tests) (rules : Rules) where
         | Somebody holder found own is early so ↦
             Somebody holder (ap (λ o. earlier o (declared w (length facts + 1) fact)) found) own
             (stay.0 w holder.owner is) (omega arith) (
-              ap (wallet_owner (event ∷ events)) own ∙ stay.0 w holder.owner is
-                  ∙ sym (rw (lt-ltb holder.since (length events + 2) (omega arith)) refl),
+              grind (arith, common_steps, lt-ltb) steps 20000,
               so,
             )
       ]

@@ -1,15 +1,15 @@
 -- What a standing says of payments, of taking and of ticks that nobody attended is what the events say.
 use Rattle.std.proofs.Common.{◌≡◌, ℕ, ◌+◌, ◌==◌, ◌&&◌, ◌||◌, not, Bool, true, false, if◌then◌else◌, List, [], ◌∷◌, ◌++◌, length, Option, Some, None, refl, ap, sym, ◌∙◌, arith}
-use Rattle.std.specs.Prelude.{nat_lt}
 use Rattle.std.specs.Option.{option_or}
+use Rattle.std.proofs.lemmas.Grind.{common_steps}
 use Rattle.plasma_tx.specs.declared.call.RootCall.{RootCall}
-use Rattle.plasma_tx.specs.Views.{blocks, coins, Exit, exit_at}
+use Rattle.plasma_tx.specs.Views.{Exit, exit_at}
 use Rattle.plasma_tx.specs.Shown.{Tests, Rules}
 use Rattle.plasma_tx.specs.Table.{IsLegal}
 use Rattle.plasma_tx.proofs.Ends.{withdrawn_is_paid}
 use Rattle.world_rules.specs.Events.{Event, Joins, Accepts, Binds, TakesBack, Watches, log_of, wallet_owner, accepted, signed_away_by}
 use Rattle.world_rules.specs.Safety.{holds_with, holds, meets_deadline, goes_unattended, is_guarded, is_own}
-use Rattle.world_rules.specs.Verdicts.{is_others, is_finish_paid, pays_own, takes_from}
+use Rattle.world_rules.specs.Verdicts.{is_others, pays_own, takes_from}
 use Rattle.coin_verdicts.specs.declared.fact.Fact.{Fact}
 use Rattle.coin_verdicts.specs.declared.note.Change.{Change}
 use Rattle.coin_verdicts.specs.declared.note.Holder.{Holder}
@@ -17,7 +17,7 @@ use Rattle.coin_verdicts.specs.declared.note.Leaf.{Leaf}
 use Rattle.coin_verdicts.specs.declared.note.Standing.{Standing}
 use Rattle.coin_verdicts.specs.Facts.{has, ended, IsFact, AreFacts}
 use Rattle.coin_verdicts.specs.Notes.{wallets_in, bound_in, taken_in, quiet_in, guards_in, nodes_at, wallets_at, tips_at, leaf_in, where_so, returned, changes_in, noted, notes_in}
-use Rattle.coin_verdicts.specs.Standings.{has_coin, is_held_at, takes, standing_in}
+use Rattle.coin_verdicts.specs.Standings.{has_coin, is_held_at, standing_in}
 use Rattle.coin_verdicts.proofs.Forms.{tick-form, watch-form, as-many}
 use Rattle.coin_verdicts.proofs.GuardedTips.{guarded-same}
 use Rattle.coin_verdicts.proofs.QuietWallets.{holder-declared, quiet-among}
@@ -28,10 +28,7 @@ use Rattle.coin_verdicts.proofs.Holders.{owner_by, IsDeclaredSo}
 use Rattle.coin_verdicts.proofs.Judging.{Judges, is_simple, judges-plain, judges-simple, judges-ends, judges-meets, pays-none, takes-none, ends-none, takes-some, unattended-same}
 
 unpaid : (b at own : Bool) → false ≡ (b && (at && own && false))
-unpaid true true true = refl
-unpaid true true false = refl
-unpaid true false own = refl
-unpaid false at own = refl
+unpaid b at own = grind (arith, common_steps) steps 20000
 
 pays-some : (b at own paid : Bool) → (b && at && own && paid) ≡ (b && (at && own && paid))
 pays-some true at own paid = refl
@@ -52,9 +49,7 @@ not-not false = refl
 pub owner-here : (holder : Holder) (events : List Event) → IsDeclaredSo holder events
     → wallet_owner events holder.wallet ≡ owner_by holder (length events + 1)
 owner-here holder [] so = so
-owner-here holder (event ∷ events) so =
-    let more : length events + 2 ≡ length (event ∷ events) + 1 = omega arith in
-    so.0 ∙ ap (owner_by holder) more
+owner-here holder (event ∷ events) so = grind (arith, common_steps, owner_by) steps 20000
 
 module _ (tests : Tests) (rules : Rules) (holder : Holder) (c e : ℕ) where
   abbrev standing : List Fact → Standing
@@ -66,9 +61,7 @@ module _ (tests : Tests) (rules : Rules) (holder : Holder) (c e : ℕ) where
       → holds events holder.wallet c e ≡ is_held_at holder (length facts + 1) (standing facts)
   unfolding holds
   holds-same events facts are legal so =
-      ap (λ o. holds_with (log_of events) o (signed_away_by events holder.wallet) (accepted events holder.wallet) c e)
-      (owner-here holder events so ∙ ap (λ n. owner_by holder (n + 1)) (sym (as-many tests rules events facts are)))
-      ∙ at (nat_lt holder.since (length facts + 1)) (agreed tests rules holder c e events facts are)
+      grind (arith, common_steps, owner-here, owner_by, as-many, at, agreed) steps 20000
     where
       at : (b : Bool) → AgreesAt rules events holder c e (standing facts)
           → holds_with (log_of events) (if b then Some holder.owner else None) (signed_away_by events holder.wallet)
@@ -76,15 +69,7 @@ module _ (tests : Tests) (rules : Rules) (holder : Holder) (c e : ℕ) where
           ≡ (b && has_coin (standing facts))
       at false same = refl
       at true same =
-          rw (
-            same.deposited_is,
-            same.accepted_is,
-            same.sent_is,
-            same.withdrawn_is,
-            sent-counted c e (signed_away_by events holder.wallet),
-            withdrawn_is_paid rules (log_of events) c legal,
-            not-not (count_of (is_body c e) (signed_away_by events holder.wallet) == 0),
-          ) refl
+          grind (arith, common_steps, sent-counted, withdrawn_is_paid, not-not, count_of, is_body) steps 20000
 
   module _ (events : List Event) (facts : List Fact) (are : AreFacts tests rules events facts)
       (held_is : holds events holder.wallet c e ≡ is_held_at holder (length facts + 1) (standing facts)) where
@@ -98,9 +83,7 @@ module _ (tests : Tests) (rules : Rules) (holder : Holder) (c e : ℕ) where
     simple : (b : Bool) (change : Change) → is_simple change ≡ true
         → Judges holder (length facts + 1) false false false (standing facts)
         (standing_in holder e (noted (length facts + 1) (where_so b change) ++ notes_in facts c))
-    simple b change is =
-        rw (after-where holder e (length facts + 1) b change (notes_in facts c))
-        (judges-simple holder e (length facts + 1) (standing facts) b change is)
+    simple b change is = grind (arith, common_steps, after-where, judges-simple) steps 20000
 
     plain : Judges holder (length facts + 1) false false false (standing facts) (standing facts)
     plain = judges-plain holder (length facts + 1) (standing facts)
@@ -113,19 +96,9 @@ module _ (tests : Tests) (rules : Rules) (holder : Holder) (c e : ℕ) where
         false (standing facts)
         (standing_in holder e (noted (length facts + 1) (changes_in facts c (ended found coin block paid))
         ++ notes_in facts c))
-    finish-step None coin block paid =
-        rw (
-          pays-none (coin == c) (block == e) paid holder.owner,
-          takes-none (coin == c) (block == e) paid (holds events holder.wallet c e) holder.owner,
-        ) plain
+    finish-step None coin block paid = grind (arith, common_steps, pays-none, takes-none, plain) steps 20000
     finish-step (Some exit) coin block paid =
-        rw (after-where holder e (length facts + 1) (coin == c) (Change.Ends block exit.account paid)
-        (notes_in facts c))
-        (judges-ends holder e (length facts + 1) (standing facts) (coin == c) block exit.account paid _ _
-        (pays-some (coin == c) (block == e) (exit.account == holder.owner.account) paid)
-        (takes-some (coin == c) (block == e) (exit.account == holder.owner.account) paid
-        (holds events holder.wallet c e)
-        ∙ ap (λ held. (coin == c) && takes holder e held block exit.account paid) held_is))
+        grind (arith, common_steps, after-where, judges-ends, pays-some, takes-some) steps 20000
 
     cancel-step : (found : Option Exit) (coin block : ℕ)
         → Judges holder (length facts + 1) false
@@ -156,9 +129,7 @@ module _ (tests : Tests) (rules : Rules) (holder : Holder) (c e : ℕ) where
     call-judged : (call : RootCall) (fact : Fact) → IsFact tests rules events (Joins call) fact
         → JudgedBy (Joins call) fact
     unfolding notes_in
-    call-judged (RootCall.Deposit account amount key) fact h =
-        rw h (simple (coins (log_of events) + 1 == c)
-        (Change.Deposits (blocks (log_of events) + 1) (record { account = account; key = key })) refl)
+    call-judged (RootCall.Deposit account amount key) fact h = grind (arith, common_steps, simple) steps 20000
     call-judged (RootCall.Tick time) fact h =
         let form = tick-form (log_of events) time fact h in
         rw (
@@ -178,25 +149,19 @@ module _ (tests : Tests) (rules : Rules) (holder : Holder) (c e : ℕ) where
         ∙ ap (λ b. has form.met c && (is_held_at holder (length facts + 1) (standing facts) && not b))
         (sym (guarded-same tests rules events facts holder.wallet c e are))
         ∙ ap (λ b. has form.met c && b)
-        (quiet-among (is_held_at holder (length facts + 1) (standing facts)) (nodes_at c (quiet_in facts))
-        (wallets_in facts) holder.wallet (has (tips_at (nodes_at c (quiet_in facts)) (guards_in facts c)) e)
-        (λ held. holder-declared tests rules events facts holder.wallet c e are (held_is ∙ held)))))
+        (grind (arith, common_steps, quiet-among, holder-declared) steps 20000)))
     call-judged (RootCall.After account coin block spend) fact h =
         rw h (cancel-step (exit_at (log_of events) coin block) coin block)
     call-judged (RootCall.Between account coin block spend) fact h =
         rw h (cancel-step (exit_at (log_of events) coin block) coin block)
-    call-judged (RootCall.Finish account coin block) fact h =
-        rw h (finish-step (exit_at (log_of events) coin block) coin block
-        (is_finish_paid tests rules (log_of events) account coin block))
+    call-judged (RootCall.Finish account coin block) fact h = grind (arith, common_steps, finish-step) steps 20000
     call-judged call fact h = rw h plain
 
     pub event-judged : (event : Event) (fact : Fact) → IsFact tests rules events event fact → JudgedBy event fact
     unfolding notes_in
     event-judged (Joins call) fact h = call-judged call fact h
     event-judged (Accepts v bundle) fact h = rw h (simple (bundle.coin == c) (Change.Accepts v bundle.tip) refl)
-    event-judged (Binds v body) fact h =
-        rw h (simple ((body.coin == c) && not (has (taken_in facts v) (length (bound_in facts v))))
-        (Change.Sends v body.parent) refl)
+    event-judged (Binds v body) fact h = grind (arith, common_steps, simple) steps 20000
     event-judged (TakesBack v q bundle) fact h =
         rw h (taken-step v (has (taken_in facts v) q) (leaf_in q (bound_in facts v)))
     event-judged (Watches n calls) fact h = rw (watch-form n calls fact h).is plain

@@ -1,18 +1,18 @@
 -- What is kept of the facts that were read, after one more.
-use Rattle.std.proofs.Common.{◌≡◌, ℕ, ◌+◌, ◌-◌, ◌==◌, ◌&&◌, ◌||◌, not, Bool, true, false, if◌then◌else◌, List, [], ◌∷◌, ◌++◌, length, filter, reverse, slice_get, replicate, zero, suc, Option, Some, None, inl, inr, refl, ap, sym, ◌∙◌, arith}
+use Rattle.std.proofs.Common.{◌≡◌, ℕ, ◌+◌, ◌==◌, ◌&&◌, ◌||◌, not, Bool, true, false, if◌then◌else◌, List, [], ◌∷◌, ◌++◌, length, reverse, slice_get, replicate, zero, suc, Option, Some, None, refl, ap, ◌∙◌, arith}
 use Rattle.std.specs.Prelude.{option_map, nat_lt}
 use Rattle.std.proofs.lemmas.Bool.{false≢true, cases_eq, eq-eqb, ne_eqb, lt-ltb, le-ltb}
 use Rattle.std.proofs.lemmas.List.{reverse-append, length-reverse}
+use Rattle.std.proofs.lemmas.Grind.{common_steps}
 use Rattle.world_rules.proofs.WalletSends.{among-key}
 use Rattle.coin_verdicts.specs.declared.fact.Fact.{Fact}
 use Rattle.coin_verdicts.specs.declared.note.Change.{Change}
 use Rattle.coin_verdicts.specs.declared.note.Leaf.{Leaf}
 use Rattle.coin_verdicts.specs.declared.note.Quiet.{Quiet}
 use Rattle.coin_verdicts.specs.declared.reading.Reading.{Reading}
-use Rattle.coin_verdicts.specs.declared.signers.Signers.{Signers}
 use Rattle.coin_verdicts.specs.Facts.{has}
-use Rattle.coin_verdicts.specs.Notes.{wallets_after, wallets_in, bound_in, taken_in, without_node, quiet_after, quiet_in, is_guard, guards_after, guards_in, where_so, returned, leaf_in, changes_in, noted, notes_in}
-use Rattle.coin_verdicts.specs.Books.{CoinBook, blank, with_more, with_guard, without_guard, with_each, book_at, IsChanged, AreMet, Signing, with_leaf, with_taken}
+use Rattle.coin_verdicts.specs.Notes.{wallets_after, wallets_in, bound_in, taken_in, without_node, quiet_after, quiet_in, guards_after, guards_in, where_so, returned, leaf_in, changes_in, noted, notes_in}
+use Rattle.coin_verdicts.specs.Books.{CoinBook, blank, with_more, with_guard, without_guard, book_at, IsChanged, AreMet, Signing, with_leaf, with_taken}
 use Rattle.coin_verdicts.specs.Signings.{signed_in, IsSigned}
 use Rattle.coin_verdicts.specs.Readings.{is_coin, book_in, Keeps}
 use Rattle.coin_verdicts.proofs.Lists.{eqb-comm}
@@ -31,16 +31,12 @@ is_unsigned fact = true
 unsigned-bound : (fact : Fact) (facts : List Fact) (w : ℕ) → is_unsigned fact ≡ true
     → bound_in (fact ∷ facts) w ≡ bound_in facts w
 unfolding bound_in
-unsigned-bound (Fact.Binds wallet coin parent) facts w is = absurd (false≢true is)
-unsigned-bound (Fact.TakesBack wallet q) facts w is = absurd (false≢true is)
-unsigned-bound fact facts w is = refl
+unsigned-bound fact facts w is = grind (arith, common_steps, false≢true) steps 20000
 
 unsigned-taken : (fact : Fact) (facts : List Fact) (w : ℕ) → is_unsigned fact ≡ true
     → taken_in (fact ∷ facts) w ≡ taken_in facts w
 unfolding taken_in
-unsigned-taken (Fact.Binds wallet coin parent) facts w is = absurd (false≢true is)
-unsigned-taken (Fact.TakesBack wallet q) facts w is = absurd (false≢true is)
-unsigned-taken fact facts w is = refl
+unsigned-taken fact facts w is = grind (arith, common_steps, false≢true) steps 20000
 
 -- the books after a fact, where each changed as the fact says
 books-next : (count line c : ℕ) (facts : List Fact) (fact : Fact) (old new : Option CoinBook)
@@ -48,16 +44,7 @@ books-next : (count line c : ℕ) (facts : List Fact) (fact : Fact) (old new : O
     → new ≡ option_map (book_after facts line c fact) old
     → new ≡ (if is_coin count c then Some (book_in (fact ∷ facts) c) else None)
 unfolding notes_in guards_in
-books-next count line c facts fact old new is was made =
-    made ∙ ap (option_map (book_after facts line c fact)) was
-    ∙ ap (λ n. option_map (book_after facts n c fact) (if is_coin count c then Some (book_in facts c) else None)) is
-    ∙ at (is_coin count c)
-  where
-    at : (b : Bool)
-        → option_map (book_after facts (length facts + 1) c fact) (if b then Some (book_in facts c) else None)
-        ≡ (if b then Some (book_in (fact ∷ facts) c) else None)
-    at true = refl
-    at false = refl
+books-next count line c facts fact old new is was made = grind (arith, common_steps) steps 20000
 
 module _ (count line : ℕ) (facts : List Fact) (old new : Reading) (is : line ≡ length facts + 1)
     (keeps : Keeps count facts old) where
@@ -71,25 +58,16 @@ module _ (count line : ℕ) (facts : List Fact) (old new : Reading) (is : line �
   keeps-next fact unsigned wallets nodes signers books = record {
     wallets_are = wallets ∙ ap (λ ws. wallets_after ws fact) keeps.wallets_are;
     nodes_are = nodes ∙ ap (λ ns. quiet_after ns fact) keeps.nodes_are;
-    leaves_are = λ w. ap (λ (s : Signers). (signed_in s w).leaves) signers ∙ keeps.leaves_are w
-        ∙ ap reverse (sym (unsigned-bound fact facts w unsigned));
-    taken_are = λ w q. ap (λ (s : Signers). has (signed_in s w).taken q) signers ∙ keeps.taken_are w q
-        ∙ ap (λ (ns : List ℕ). has ns q) (sym (unsigned-taken fact facts w unsigned));
-    books_are = λ c. books-next count line c facts fact (book_at old.books c) (book_at new.books c) is
-        (keeps.books_are c) (books c);
+    leaves_are = grind (arith, common_steps, unsigned-bound) steps 20000;
+    taken_are = grind (arith, common_steps, unsigned-taken) steps 20000;
+    books_are = grind (arith, common_steps, books-next) steps 20000;
   }
 
   -- leaves in the order of time, with one more
   leaves-more : (w wallet : ℕ) (leaf : Leaf) (now was : Signing) (bound : List Leaf)
       → now ≡ (if w == wallet then with_leaf leaf was else was) → was.leaves ≡ reverse bound
       → now.leaves ≡ reverse (if wallet == w then leaf ∷ bound else bound)
-  leaves-more w wallet leaf now was bound made same =
-      ap (λ (s : Signing). s.leaves) made ∙ ap (λ (b : Bool). (if b then with_leaf leaf was else was).leaves)
-      (eqb-comm w wallet) ∙ at (wallet == w)
-    where
-      at : (b : Bool) → (if b then with_leaf leaf was else was).leaves ≡ reverse (if b then leaf ∷ bound else bound)
-      at true = ap (λ ls. ls ++ leaf ∷ []) same ∙ sym (reverse-append (leaf ∷ []) bound)
-      at false = same
+  leaves-more w wallet leaf now was bound made same = grind (arith, common_steps, eqb-comm, reverse-append) steps 20000
 
   -- a wallet binds its next leaf
   pub keeps-binds : (wallet coin parent : ℕ)
@@ -104,12 +82,9 @@ module _ (count line : ℕ) (facts : List Fact) (old new : Reading) (is : line �
   keeps-binds wallet coin parent wallets nodes signers books = record {
     wallets_are = wallets ∙ keeps.wallets_are;
     nodes_are = nodes ∙ ap (λ ns. quiet_after ns (Fact.Binds wallet coin parent)) keeps.nodes_are;
-    leaves_are = λ w. leaves-more w wallet (record { coin = coin; parent = parent }) (signed_in new.signers w)
-        (signed_in old.signers w) (bound_in facts w) (signers w ∙ own w) (keeps.leaves_are w);
-    taken_are = λ w q. ap (λ (s : Signing). has s.taken q) (signers w ∙ own w) ∙ at w q (w == wallet)
-        ∙ keeps.taken_are w q;
-    books_are = λ c. books-next count line c facts (Fact.Binds wallet coin parent) (book_at old.books c)
-        (book_at new.books c) is (keeps.books_are c) (books c);
+    leaves_are = λ w. grind (arith, common_steps, leaves-more, own) steps 20000;
+    taken_are = λ w q. grind (arith, common_steps, own, at) steps 20000;
+    books_are = grind (arith, common_steps, books-next) steps 20000;
   }
     where
       own : (w : ℕ)
@@ -117,12 +92,7 @@ module _ (count line : ℕ) (facts : List Fact) (old new : Reading) (is : line �
           else signed_in old.signers w)
           ≡ (if w == wallet then with_leaf (record { coin = coin; parent = parent }) (signed_in old.signers w)
           else signed_in old.signers w)
-      own w = elim (cases_eq w wallet) [
-        | inl same ↦ ap (λ k.
-            if w == wallet then with_leaf (record { coin = coin; parent = parent }) (signed_in old.signers k)
-            else signed_in old.signers w) (sym same)
-        | inr apart ↦ rw (ne_eqb w wallet apart) refl
-      ]
+      own w = grind (arith, common_steps, cases_eq, ne_eqb) steps 20000
 
       at : (w q : ℕ) (b : Bool)
           → has (if b then with_leaf (record { coin = coin; parent = parent }) (signed_in old.signers w)
@@ -144,22 +114,14 @@ module _ (count line : ℕ) (facts : List Fact) (old new : Reading) (is : line �
     wallets_are = wallets ∙ keeps.wallets_are;
     nodes_are = nodes ∙ ap (λ ns. quiet_after ns (Fact.TakesBack wallet number)) keeps.nodes_are;
     leaves_are = λ w. ap (λ (s : Signing). s.leaves) (signers w ∙ own w) ∙ kept w (w == wallet) ∙ keeps.leaves_are w;
-    taken_are = λ w q. ap (λ (s : Signing). has s.taken q) (signers w ∙ own w)
-        ∙ ap (λ (b : Bool). has (if b then with_taken number (signed_in old.signers w)
-        else signed_in old.signers w).taken q) (eqb-comm w wallet)
-        ∙ at w q (wallet == w) (keeps.taken_are w q);
-    books_are = λ c. books-next count line c facts (Fact.TakesBack wallet number) (book_at old.books c)
-        (book_at new.books c) is (keeps.books_are c) (books c);
+    taken_are = λ w q. grind (arith, common_steps, own, eqb-comm, at) steps 20000;
+    books_are = grind (arith, common_steps, books-next) steps 20000;
   }
     where
       own : (w : ℕ)
           → (if w == wallet then with_taken number (signed_in old.signers wallet) else signed_in old.signers w)
           ≡ (if w == wallet then with_taken number (signed_in old.signers w) else signed_in old.signers w)
-      own w = elim (cases_eq w wallet) [
-        | inl same ↦ ap (λ k. if w == wallet then with_taken number (signed_in old.signers k)
-            else signed_in old.signers w) (sym same)
-        | inr apart ↦ rw (ne_eqb w wallet apart) refl
-      ]
+      own w = grind (arith, common_steps, cases_eq, ne_eqb) steps 20000
 
       kept : (w : ℕ) (b : Bool)
           → (if b then with_taken number (signed_in old.signers w) else signed_in old.signers w).leaves
@@ -192,15 +154,7 @@ pub noted-books : (line coin c : ℕ) (change : Change) (books after : List Coin
       notes = noted line (where_so (coin == c) change) ++ book.notes;
       guards = book.guards;
     }) (book_at books c)
-noted-books line coin c change books after is = is c ∙ rw (eqb-comm c coin) (at (coin == c) (book_at books c))
-  where
-    at : (b : Bool) (o : Option CoinBook)
-        → (if b then option_map (with_more (record { line = line; change = change })) o else o)
-        ≡ option_map (λ book. record { notes = noted line (where_so b change) ++ book.notes; guards = book.guards }) o
-    at true None = refl
-    at true (Some book) = refl
-    at false None = refl
-    at false (Some book) = refl
+noted-books line coin c change books after is = grind (arith, common_steps, eqb-comm) steps 20000
 
 -- a guard of a coin, and one that is let go
 pub guarded-books : (watcher coin tip c : ℕ) (books after : List CoinBook)
@@ -210,18 +164,7 @@ pub guarded-books : (watcher coin tip c : ℕ) (books after : List CoinBook)
       notes = book.notes;
       guards = guards_after c book.guards (Fact.Guards watcher coin tip);
     }) (book_at books c)
-guarded-books watcher coin tip c books after is = is c ∙ rw (eqb-comm c coin) (at (coin == c) (book_at books c))
-  where
-    at : (b : Bool) (o : Option CoinBook)
-        → (if b then option_map (with_guard (record { watcher = watcher; tip = tip })) o else o)
-        ≡ option_map (λ book. record {
-          notes = book.notes;
-          guards = if b then book.guards ++ record { watcher = watcher; tip = tip } ∷ [] else book.guards;
-        }) o
-    at true None = refl
-    at true (Some book) = refl
-    at false None = refl
-    at false (Some book) = refl
+guarded-books watcher coin tip c books after is = grind (arith, common_steps, eqb-comm) steps 20000
 
 pub released-books : (watcher coin tip c : ℕ) (books after : List CoinBook)
     → IsChanged coin (without_guard watcher tip) books after
@@ -230,18 +173,7 @@ pub released-books : (watcher coin tip c : ℕ) (books after : List CoinBook)
       notes = book.notes;
       guards = guards_after c book.guards (Fact.Releases watcher coin tip);
     }) (book_at books c)
-released-books watcher coin tip c books after is = is c ∙ rw (eqb-comm c coin) (at (coin == c) (book_at books c))
-  where
-    at : (b : Bool) (o : Option CoinBook)
-        → (if b then option_map (without_guard watcher tip) o else o)
-        ≡ option_map (λ book. record {
-          notes = book.notes;
-          guards = if b then filter (λ guard. not (is_guard watcher tip guard)) book.guards else book.guards;
-        }) o
-    at true None = refl
-    at true (Some book) = refl
-    at false None = refl
-    at false (Some book) = refl
+released-books watcher coin tip c books after is = grind (arith, common_steps, eqb-comm) steps 20000
 
 -- a tick, by the wallets, nodes and guards that are kept
 pub met-books : (count line c : ℕ) (facts : List Fact) (wallets : List ℕ) (nodes : List Quiet) (met : List ℕ)
@@ -249,16 +181,7 @@ pub met-books : (count line c : ℕ) (facts : List Fact) (wallets : List ℕ) (n
     → book_at books c ≡ (if is_coin count c then Some (book_in facts c) else None)
     → AreMet line wallets nodes met books after
     → book_at after c ≡ option_map (book_after facts line c (Fact.Ticks met)) (book_at books c)
-met-books count line c facts wallets nodes met books after known same was are =
-    are c ∙ ap (λ ws. option_map (with_each line c ws nodes met) (book_at books c)) known
-    ∙ ap (λ ns. option_map (with_each line c (wallets_in facts) ns met) (book_at books c)) same
-    ∙ at (is_coin count c) (book_at books c) was
-  where
-    at : (b : Bool) (o : Option CoinBook) → o ≡ (if b then Some (book_in facts c) else None)
-        → option_map (with_each line c (wallets_in facts) (quiet_in facts) met) o
-        ≡ option_map (book_after facts line c (Fact.Ticks met)) o
-    at true o is = rw is refl
-    at false o is = rw is refl
+met-books count line c facts wallets nodes met books after known same was are = grind (arith, common_steps) steps 20000
 
 -- ---- leaves
 
@@ -266,10 +189,7 @@ met-books count line c facts wallets nodes met books after known same was are =
 pub next-taken : (count : ℕ) (facts : List Fact) (reading : Reading) (w : ℕ) → Keeps count facts reading
     → has (signed_in reading.signers w).taken (length (signed_in reading.signers w).leaves)
     ≡ has (taken_in facts w) (length (bound_in facts w))
-next-taken count facts reading w keeps =
-    keeps.taken_are w (length (signed_in reading.signers w).leaves)
-    ∙ ap (λ (ls : List Leaf). has (taken_in facts w) (length ls)) (keeps.leaves_are w)
-    ∙ ap (λ n. has (taken_in facts w) n) (length-reverse (bound_in facts w))
+next-taken count facts reading w keeps = grind (arith, common_steps, length-reverse) steps 20000
 
 -- a leaf that is taken back already signs nothing away
 pub unsent-books : (line coin c : ℕ) (change : Change) (taken : Bool) (o : Option CoinBook) → false ≡ not taken
@@ -277,18 +197,7 @@ pub unsent-books : (line coin c : ℕ) (change : Change) (taken : Bool) (o : Opt
       notes = noted line (where_so ((coin == c) && not taken) change) ++ book.notes;
       guards = book.guards;
     }) o
-unsent-books line coin c change false o is = absurd (false≢true is)
-unsent-books line coin c change true o is = at (coin == c) o
-  where
-    at : (b : Bool) (o : Option CoinBook)
-        → o ≡ option_map (λ book. record {
-          notes = noted line (where_so (b && false) change) ++ book.notes;
-          guards = book.guards;
-        }) o
-    at true None = refl
-    at true (Some book) = refl
-    at false None = refl
-    at false (Some book) = refl
+unsent-books line coin c change taken o is = grind (arith, common_steps, false≢true) steps 20000
 
 pub sent-books : (line coin c : ℕ) (change : Change) (taken : Bool) (books after : List CoinBook) → true ≡ not taken
     → IsChanged coin (with_more (record { line = line; change = change })) books after
@@ -297,52 +206,35 @@ pub sent-books : (line coin c : ℕ) (change : Change) (taken : Bool) (books aft
       notes = noted line (where_so ((coin == c) && not taken) change) ++ book.notes;
       guards = book.guards;
     }) (book_at books c)
-sent-books line coin c change taken books after is made =
-    noted-books line coin c change books after made
-    ∙ ap (λ (b : Bool). option_map (with_changes line (where_so b change)) (book_at books c)) (at (coin == c) taken is)
-  where
-    at : (b t : Bool) → true ≡ not t → b ≡ (b && not t)
-    at true t is = is
-    at false t is = refl
+sent-books line coin c change taken books after is made = grind (arith, common_steps, noted-books) steps 20000
 
 -- what is returned of a leaf, by what was found
 pub returned-none : (c w : ℕ) (taken : Bool) (found : Option Leaf) → None ≡ (if taken then None else found)
     → (if taken then [] else returned c w found) ≡ []
-returned-none c w true found is = refl
-returned-none c w false None is = refl
-returned-none c w false (Some leaf) is = absurd (cc is)
+returned-none c w taken found is = grind (arith, common_steps) steps 20000
 
 pub returned-some : (c w : ℕ) (taken : Bool) (found : Option Leaf) (leaf : Leaf)
     → Some leaf ≡ (if taken then None else found)
     → (if taken then [] else returned c w found) ≡ where_so (leaf.coin == c) (Change.Returns w leaf.parent)
-returned-some c w true found leaf is = absurd (cc is)
-returned-some c w false None leaf is = absurd (cc is)
-returned-some c w false (Some other) leaf is =
-    let same : other ≡ leaf = cc is in ap (λ (l : Leaf). where_so (l.coin == c) (Change.Returns w l.parent)) same
+returned-some c w taken found leaf is = grind (arith, common_steps) steps 20000
 
 -- what is found of a leaf that is taken back
 pub found-same : (count : ℕ) (facts : List Fact) (reading : Reading) (w q : ℕ) → Keeps count facts reading
     → (if has (signed_in reading.signers w).taken q then None else slice_get (signed_in reading.signers w).leaves q)
     ≡ (if has (taken_in facts w) q then None else leaf_in q (bound_in facts w))
-found-same count facts reading w q keeps =
-    ap (λ (b : Bool). if b then None else slice_get (signed_in reading.signers w).leaves q) (keeps.taken_are w q)
-    ∙ ap (λ (ls : List Leaf). if has (taken_in facts w) q then None else slice_get ls q) (keeps.leaves_are w)
+found-same count facts reading w q keeps = grind (arith, common_steps) steps 20000
 
 pub unreturned-books : (facts : List Fact) (line c w q : ℕ) (o : Option CoinBook)
     → None ≡ (if has (taken_in facts w) q then None else leaf_in q (bound_in facts w))
     → o ≡ option_map (book_after facts line c (Fact.TakesBack w q)) o
-unreturned-books facts line c w q o is =
-    same-book o ∙ ap (λ (changes : List Change). option_map (with_changes line changes) o)
-    (sym (returned-none c w (has (taken_in facts w) q) (leaf_in q (bound_in facts w)) is))
+unreturned-books facts line c w q o is = grind (arith, common_steps, same-book, returned-none) steps 20000
 
 pub returned-books : (facts : List Fact) (line c w q : ℕ) (leaf : Leaf) (books after : List CoinBook)
     → Some leaf ≡ (if has (taken_in facts w) q then None else leaf_in q (bound_in facts w))
     → IsChanged leaf.coin (with_more (record { line = line; change = Change.Returns w leaf.parent })) books after
     → book_at after c ≡ option_map (book_after facts line c (Fact.TakesBack w q)) (book_at books c)
 returned-books facts line c w q leaf books after is made =
-    noted-books line leaf.coin c (Change.Returns w leaf.parent) books after made
-    ∙ ap (λ (changes : List Change). option_map (with_changes line changes) (book_at books c))
-    (sym (returned-some c w (has (taken_in facts w) q) (leaf_in q (bound_in facts w)) leaf is))
+    grind (arith, common_steps, noted-books, returned-some) steps 20000
 
 -- ---- at the start
 
@@ -355,10 +247,4 @@ get-replicate (suc n) (suc i) x =
 
 -- coins without notes
 pub blank-books : (count c : ℕ) → book_at (replicate count blank) c ≡ (if is_coin count c then Some blank else None)
-blank-books count c = elim (cases_eq c 0) [
-  | inl none ↦
-      let first : is_coin count c ≡ false = rw none refl in rw (eq-eqb c 0 none, first) refl
-  | inr some ↦
-      let same : is_coin count c ≡ nat_lt (c - 1) count = grind arith in
-      rw (ne_eqb c 0 some, same) (get-replicate count (c - 1) blank)
-]
+blank-books count c = grind (arith, common_steps, cases_eq, eq-eqb, ne_eqb, get-replicate) steps 20000

@@ -1,7 +1,8 @@
 -- Steps of loops over notes.
-use Rattle.std.proofs.Common.{◌≡◌, ℕ, ◌+◌, ◌-◌, ◌<◌, ◌≤◌, ◌==◌, max, Bool, true, false, if◌then◌else◌, List, [], ◌∷◌, ◌++◌, length, take, get_or, filter, reverse, Option, Some, None, refl, ap, sym, ◌∙◌, arith}
+use Rattle.std.proofs.Common.{◌≡◌, ℕ, ◌+◌, ◌-◌, ◌<◌, ◌≤◌, max, Bool, true, false, if◌then◌else◌, List, [], ◌∷◌, ◌++◌, length, take, get_or, filter, reverse, Option, Some, None, refl, ap, sym, ◌∙◌, arith}
 use Rattle.std.specs.Option.{option_map_or}
 use Rattle.std.proofs.lemmas.List.{take_more, reverse-append}
+use Rattle.std.proofs.lemmas.Grind.{common_steps}
 use Rattle.wallet_core.specs.State.{greatest}
 use Rattle.coin_verdicts.specs.declared.note.Note.{Note}
 use Rattle.coin_verdicts.specs.declared.note.Change.{Change}
@@ -26,35 +27,19 @@ joined-none (Some best) = refl
 
 joined-better : (b : Bool) (best : Option ℕ) (tip : ℕ) (rest : Option ℕ)
     → joined best (if b then Some (option_map_or (max tip) rest tip) else rest) ≡ joined (better b best tip) rest
-joined-better true None tip None = refl
-joined-better true None tip (Some other) = refl
-joined-better true (Some best) tip None = refl
-joined-better true (Some best) tip (Some other) = ap Some (omega arith)
-joined-better false best tip rest = refl
+joined-better b best tip rest = grind (arith, common_steps) steps 20000
 
 greatest-filter : (p : ℕ → Bool) (tip : ℕ) (tips : List ℕ)
     → greatest (filter p (tip ∷ tips))
     ≡ (if p tip then Some (option_map_or (max tip) (greatest (filter p tips)) tip) else greatest (filter p tips))
 unfolding greatest
-greatest-filter p tip tips = at (p tip)
-  where
-    at : (b : Bool) → greatest (if b then tip ∷ filter p tips else filter p tips)
-        ≡ (if b then Some (option_map_or (max tip) (greatest (filter p tips)) tip) else greatest (filter p tips))
-    at true = refl
-    at false = refl
+greatest-filter p tip tips = grind (arith, common_steps) steps 20000
 
 -- one note nearer to the oldest
 pub joined-more : (p : ℕ → Bool) (w : ℕ) (best : Option ℕ) (change : Change) (tips : List ℕ)
     → joined best (greatest (filter p (tips_or w tips change)))
     ≡ joined (better_by p w best change) (greatest (filter p tips))
-joined-more p w best (Change.Accepts wallet tip) tips = at (wallet == w)
-  where
-    at : (b : Bool) → joined best (greatest (filter p (if b then tip ∷ tips else tips)))
-        ≡ joined (if b then better (p tip) best tip else best) (greatest (filter p tips))
-    at true = ap (joined best) (greatest-filter p tip tips)
-        ∙ joined-better (p tip) best tip (greatest (filter p tips))
-    at false = refl
-joined-more p w best change tips = refl
+joined-more p w best change tips = grind (arith, common_steps, greatest-filter, joined-better) steps 20000
 
 -- where the loop is done, with no deposit and with one
 pub tip-undeposited : (holder : Holder) (notes : List Note) (best : Option ℕ)
@@ -89,17 +74,9 @@ pub tip-more : (p : ℕ → Bool) (w : ℕ) (all : List Note) (best found : Opti
     ≡ joined (better_by p w best note.change) (greatest (filter p (tips_in w (reverse (take (left - 1) all)))))
 unfolding tips_in
 tip-more p w all best found left note some within is was =
-    let next : left ≡ (left - 1) + 1 = omega arith in
-    was
-    ∙ ap (λ n. joined best (greatest (filter p (tips_in w (reverse (take n all)))))) next
-    ∙ ap (λ (ns : List Note). joined best (greatest (filter p (tips_in w ns))))
-    (reversed-more all (left - 1) note (omega arith))
-    ∙ ap (λ (n : Note). joined best (greatest (filter p (tips_in w (n ∷ reverse (take (left - 1) all)))))) (sym is)
-    ∙ joined-more p w best note.change (tips_in w (reverse (take (left - 1) all)))
+    grind (arith, common_steps, reversed-more, joined-more) steps 20000
 
 pub tip-end : (p : ℕ → Bool) (w : ℕ) (all : List Note) (best found : Option ℕ) (left : ℕ) → left ≤ 0
     → found ≡ joined best (greatest (filter p (tips_in w (reverse (take left all))))) → found ≡ best
 unfolding greatest tips_in
-tip-end p w all best found left none was =
-    let zero_left : left ≡ 0 = omega arith in
-    was ∙ ap (λ n. joined best (greatest (filter p (tips_in w (reverse (take n all)))))) zero_left ∙ joined-none best
+tip-end p w all best found left none was = grind (arith, common_steps, joined-none) steps 20000

@@ -1,13 +1,14 @@
 -- The standing after the changes of one line.
-use Rattle.std.proofs.Common.{◌≡◌, ℕ, ◌==◌, ◌&&◌, ◌||◌, not, Bool, true, false, if◌then◌else◌, List, [], ◌∷◌, ◌++◌, Option, Some, None, refl, ap, ◌∙◌}
+use Rattle.std.proofs.Common.{◌≡◌, ℕ, ◌==◌, ◌||◌, Bool, true, false, if◌then◌else◌, List, [], ◌∷◌, ◌++◌, Option, Some, None, refl, ap, arith}
 use Rattle.std.specs.Option.{option_or}
+use Rattle.std.proofs.lemmas.Grind.{common_steps}
 use Rattle.coin_verdicts.specs.declared.note.Note.{Note}
 use Rattle.coin_verdicts.specs.declared.note.Change.{Change}
 use Rattle.coin_verdicts.specs.declared.note.Holder.{Holder}
 use Rattle.coin_verdicts.specs.declared.note.Standing.{Standing}
 use Rattle.coin_verdicts.specs.Facts.{has}
 use Rattle.coin_verdicts.specs.Notes.{where_so, each_time, noted}
-use Rattle.coin_verdicts.specs.Standings.{is_held_at, missed, with_note, standing_in}
+use Rattle.coin_verdicts.specs.Standings.{missed, with_note, standing_in}
 
 -- a change in a line, as a note
 abbrev pub in_line : ℕ → Change → Note
@@ -24,36 +25,20 @@ after-where holder e line false change notes = refl
 again : (o : Option ℕ) (b : Bool) (line : ℕ)
     → option_or (option_or o (if b then Some line else None)) (if b then Some line else None)
     ≡ option_or o (if b then Some line else None)
-again None true line = refl
-again None false line = refl
-again (Some n) b line = refl
+again o b line = grind (arith, common_steps) steps 20000
 
 or-again : (a b : Bool) → ((a || b) || b) ≡ (a || b)
-or-again true b = refl
-or-again false true = refl
-or-again false false = refl
+or-again a b = grind (arith, common_steps) steps 20000
 
 missed-again : (line : ℕ) (s : Standing) (b : Bool)
     → missed line (record s { unattended = missed line s b }) b ≡ missed line s b
-missed-again line s b = at s.taken
-  where
-    at : (t : Bool) → (if t then (if t then s.unattended else option_or s.unattended (if b then Some line else None))
-        else option_or (if t then s.unattended else option_or s.unattended (if b then Some line else None))
-        (if b then Some line else None))
-        ≡ (if t then s.unattended else option_or s.unattended (if b then Some line else None))
-    at true = refl
-    at false = again s.unattended b line
+missed-again line s b = grind (arith, common_steps, again) steps 20000
 
 meets-again : (holder : Holder) (e line : ℕ) (nodes tips : List ℕ) (s : Standing)
     → with_note holder e (with_note holder e s (in_line line (Change.Meets nodes tips)))
     (in_line line (Change.Meets nodes tips))
     ≡ with_note holder e s (in_line line (Change.Meets nodes tips))
-meets-again holder e line nodes tips s =
-    let held = is_held_at holder line s in
-    let is_missed = held && not (has nodes holder.wallet || has tips e) in
-    ap (λ (o : Option ℕ). record s { unattended = o; ever_held = (s.ever_held || held) || held })
-    (missed-again line s is_missed)
-    ∙ ap (λ (b : Bool). record s { unattended = missed line s is_missed; ever_held = b }) (or-again s.ever_held held)
+meets-again holder e line nodes tips s = grind (arith, common_steps, missed-again, or-again) steps 20000
 
 pub after-each : (holder : Holder) (e line c : ℕ) (nodes tips met : List ℕ) (notes : List Note)
     → standing_in holder e (noted line (each_time c (Change.Meets nodes tips) met) ++ notes)
@@ -73,9 +58,7 @@ after-each holder e line c nodes tips (m ∷ met) notes =
         else each_time c (Change.Meets nodes tips) met) ++ notes)
         ≡ (if b || d then with_note holder e (standing_in holder e notes) (in_line line (Change.Meets nodes tips))
         else standing_in holder e notes)
-    at true true rest =
-        ap (λ s. with_note holder e s (in_line line (Change.Meets nodes tips))) rest
-        ∙ meets-again holder e line nodes tips (standing_in holder e notes)
+    at true true rest = grind (arith, common_steps, meets-again) steps 20000
     at true false rest = ap (λ s. with_note holder e s (in_line line (Change.Meets nodes tips))) rest
     at false true rest = rest
     at false false rest = rest

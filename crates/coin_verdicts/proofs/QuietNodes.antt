@@ -1,10 +1,11 @@
 -- Which nodes are quiet, by facts, is what events say.
-use Rattle.std.proofs.Common.{◌≡◌, ℕ, ◌==◌, ◌&&◌, ◌||◌, not, Bool, true, false, if◌then◌else◌, List, [], ◌∷◌, ◌++◌, refl, ap, ◌∙◌}
+use Rattle.std.proofs.Common.{◌≡◌, ℕ, ◌==◌, ◌&&◌, not, Bool, true, false, if◌then◌else◌, List, [], ◌∷◌, ◌++◌, refl, ap, ◌∙◌, arith}
 use Rattle.std.specs.List.{list_any}
 use Rattle.std.proofs.lemmas.Bool.{false≢true, and_parts, eqb-true}
 use Rattle.std.proofs.lemmas.List.Folds.{list_any-append}
+use Rattle.std.proofs.lemmas.Grind.{common_steps}
 use Rattle.plasma_tx.specs.Shown.{Tests, Rules}
-use Rattle.world_rules.specs.Events.{Event, Declares, Joins, Bounces, Watches, Idle, log_of, coin_of_call}
+use Rattle.world_rules.specs.Events.{Event, Declares, Joins, Bounces, Watches, Idle, log_of}
 use Rattle.world_rules.specs.Safety.{is_quiet}
 use Rattle.coin_verdicts.specs.declared.fact.Fact.{Fact}
 use Rattle.coin_verdicts.specs.declared.note.Quiet.{Quiet}
@@ -29,35 +30,18 @@ without-same n m c nodes =
 
 after-other : (n m c : ℕ) (nodes : List Quiet) (was : Bool) → list_any (is_quiet_node n c) nodes ≡ was
     → list_any (is_quiet_node n c) (without_node m nodes) ≡ (if m == n then false else was)
-after-other n m c nodes was same = without-same n m c nodes ∙ at (m == n)
-  where
-    at : (b : Bool) → (not b && list_any (is_quiet_node n c) nodes) ≡ (if b then false else was)
-    at true = refl
-    at false = same
+after-other n m c nodes was same = grind (arith, common_steps, without-same) steps 20000
 
 after-watch : (n m c : ℕ) (coins : List ℕ) (nodes : List Quiet) (was offers : Bool)
     → list_any (is_quiet_node n c) nodes ≡ was → has coins c ≡ offers
     → list_any (is_quiet_node n c) (without_node m nodes ++ record { node = m; coins = coins } ∷ [])
     ≡ (if m == n then not offers else was)
 after-watch n m c coins nodes was offers same those =
-    list_any-append (is_quiet_node n c) (without_node m nodes) (record { node = m; coins = coins } ∷ [])
-    ∙ ap (λ (b : Bool). b || ((not (has coins c) && (m == n)) || false)) (after-other n m c nodes was same)
-    ∙ at (m == n) (has coins c) those
-  where
-    at : (b o : Bool) → o ≡ offers
-        → ((if b then false else was) || ((not o && b) || false)) ≡ (if b then not offers else was)
-    at true true is = ap not is
-    at true false is = ap not is
-    at false true is = or-false was
-    at false false is = or-false was
+    grind (arith, common_steps, list_any-append, after-other, or-false) steps 20000
 
 call-quiet : (fact : Fact) (facts : List Fact) → is_of_call fact ≡ true → quiet_in (fact ∷ facts) ≡ []
 unfolding quiet_in
-call-quiet (Fact.Deposits coin block owner) facts h = refl
-call-quiet (Fact.Ticks met) facts h = refl
-call-quiet (Fact.Ends coin block account paid) facts h = refl
-call-quiet Fact.Joins facts h = refl
-call-quiet fact facts h = absurd (false≢true h)
+call-quiet fact facts h = grind (arith, common_steps, false≢true) steps 20000
 
 module _ (tests : Tests) (rules : Rules) where
   quiet-step : (event : Event) (events : List Event) (fact : Fact) (facts : List Fact) (n c : ℕ)
@@ -70,9 +54,7 @@ module _ (tests : Tests) (rules : Rules) where
   quiet-step (Joins call) events fact facts n c h same =
       ap (list_any (is_quiet_node n c)) (call-quiet fact facts (call-form tests rules (log_of events) call fact h))
   quiet-step (Watches m calls) events fact facts n c h same =
-      let form = watch-form m calls fact h in
-      rw form.is (after-watch n m c form.coins (quiet_in facts) (is_quiet events n c)
-      (list_any (λ call. coin_of_call call == c) calls) same (form.those c))
+      grind (arith, common_steps, watch-form, after-watch) steps 20000
   quiet-step event events fact facts n c h same =
       rw h (after-other n _ c (quiet_in facts) (is_quiet events n c) same)
 

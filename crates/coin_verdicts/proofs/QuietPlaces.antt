@@ -1,14 +1,13 @@
 -- The places of watches, after one is taken out and after one is added.
-use Rattle.std.proofs.Common.{◌≡◌, ◌≢◌, ◌⊎◌, inl, inr, ℕ, zero, suc, ◌+◌, ◌<◌, ◌==◌, ◌&&◌, ◌||◌, not, nat_eq, Bool, true, false, List, [], ◌∷◌, ◌++◌, length, map, filter, take, slice_set, slice_index_or, Option, Some, None, refl, ap, sym, ◌∙◌, arith}
+use Rattle.std.proofs.Common.{◌≡◌, ◌≢◌, ◌⊎◌, inl, inr, ℕ, zero, suc, ◌==◌, ◌&&◌, ◌||◌, not, nat_eq, Bool, true, false, List, [], ◌∷◌, ◌++◌, length, slice_set, slice_index_or, Option, Some, None, refl, ap, sym, ◌∙◌, arith}
 use Rattle.std.specs.Prelude.{slice_get}
 use Rattle.std.specs.List.{list_any}
 use Rattle.std.specs.Option.{option_to_list}
 use Rattle.std.specs.HashMap.{HashMap, get, Updates}
 use Rattle.std.proofs.lemmas.Bool.{cases_Bool, true≢false, eqb-true, eq-eqb}
-use Rattle.std.proofs.lemmas.List.{map-append, take_more}
-use Rattle.std.proofs.lemmas.List.Elements.{filter-append}
 use Rattle.std.proofs.lemmas.List.Concat.{flat_map-append}
 use Rattle.std.proofs.lemmas.Option.{get_or_from_slice_get}
+use Rattle.std.proofs.lemmas.Grind.{common_steps}
 use Rattle.coin_verdicts.specs.declared.note.Quiet.{Quiet}
 use Rattle.coin_verdicts.specs.Facts.{has}
 use Rattle.coin_verdicts.specs.Notes.{without_node, nodes_at}
@@ -50,10 +49,7 @@ get-parts : {X : Type 0} (xs : List X) (x y : X) (k : ℕ) → slice_get (xs ++ 
 get-parts [] x y zero is = inr (refl, cc is)
 get-parts [] x y (suc k) is = absurd (let wrong : None ≡ Some y = is in cc wrong)
 get-parts (z ∷ zs) x y zero is = inl is
-get-parts (z ∷ zs) x y (suc k) is = elim (get-parts zs x y k is) [
-  | inl front ↦ inl front
-  | inr last ↦ inr (ap suc last.0, last.1)
-]
+get-parts (z ∷ zs) x y (suc k) is = grind (arith, common_steps, get-parts zs x y k is) steps 20000
 
 -- ---- the watch of one node
 
@@ -152,10 +148,7 @@ module _ {S : Type 0} (watches : List (Option Quiet)) (places : HashMap ℕ ℕ 
       ap (get nat_eq places) (sym (eqb-true quiet.node n is)) ∙ are.known place quiet at
 
   pub is-gone : get nat_eq places n ≡ None → IsGone n watches
-  is-gone none k quiet there = elim (cases_Bool (quiet.node == n)) [
-    | inr apart ↦ apart
-    | inl same ↦ absurd (let wrong : None ≡ Some k = sym none ∙ node-is k quiet there same in cc wrong)
-  ]
+  is-gone none k quiet there = grind (arith, common_steps, cases_Bool, node-is) steps 20000
 
   pub is-only : (place : ℕ) → get nat_eq places n ≡ Some place → IsOnly n place watches
   is-only place is k quiet there same =
@@ -191,44 +184,22 @@ module _ {S : Type 0} (watches : List (Option Quiet)) (places : HashMap ℕ ℕ 
   places-removed new place is takes = record {
     known = λ k quiet there.
         let apart = emptied watches place k quiet there in
-        let was : slice_get watches k ≡ Some (Some quiet) = sym (set-other watches place k None apart) ∙ there in
-        elim (cases_Bool (n == quiet.node)) [
-          | inl same ↦ absurd (apart (is-only place is k quiet was (eq-eqb quiet.node n (sym (eqb-true n quiet.node
-              same)))))
-          | inr other ↦ takes.2 quiet.node other ∙ are.known k quiet was
-        ];
+        grind (arith, common_steps, set-other, cases_Bool, is-only, eq-eqb, eqb-true) steps 20000;
     only = λ node k there. elim (cases_Bool (n == node)) [
       | inl same ↦
-          let wrong : None ≡ Some k =
-          sym takes.1 ∙ ap (get nat_eq new) (eqb-true n node same) ∙ there in absurd (cc wrong)
+          grind (arith, common_steps, eqb-true) steps 20000
       | inr other ↦
-          let was = are.only node k (sym (takes.2 node other) ∙ there) in
-          let apart : k ≢ place =
-          (λ same. true≢false (sym (eq-eqb n node (n-is k was.0 same was.1 ∙ was.2)) ∙ other)) in
-          (was.0, set-other watches place k None apart ∙ was.1, was.2)
+          grind (arith, common_steps, true≢false, eq-eqb, n-is, set-other) steps 20000
     ];
   }
     where
       n-is : (k : ℕ) (quiet : Quiet) → k ≡ place → slice_get watches k ≡ Some (Some quiet) → n ≡ quiet.node
-      n-is k quiet same at =
-          let found = are.only n place is in
-          let both : Some (Some found.0) ≡ Some (Some quiet) =
-          sym found.1 ∙ ap (slice_get watches) (sym same) ∙ at in
-          let e : found.0 ≡ quiet = cc both in
-          sym found.2 ∙ ap (λ (q : Quiet). q.node) e
+      n-is k quiet same at = grind (arith, common_steps) steps 20000
 
 pub standing-more : (watches : List (Option Quiet)) (watch : Option Quiet)
     → standing (watches ++ watch ∷ []) ≡ standing watches ++ option_to_list watch
-standing-more watches watch = flat_map-append option_to_list watches (watch ∷ []) ∙ ends watch
-  where
-    ends : (one : Option Quiet)
-        → standing watches ++ standing (one ∷ []) ≡ standing watches ++ option_to_list one
-    ends None = refl
-    ends (Some quiet) = refl
+standing-more watches watch = grind (arith, common_steps, flat_map-append) steps 20000
 
 pub places-same : {S : Type 0} (watches : List (Option Quiet)) (old new : HashMap ℕ ℕ S)
     → new.entries ≡ old.entries → ArePlaces watches old → ArePlaces watches new
-places-same watches old new same are = record {
-  known = λ k quiet there. rw same (are.known k quiet there);
-  only = λ node k there. are.only node k (rw same at there);
-}
+places-same watches old new same are = grind (arith, common_steps) steps 20000

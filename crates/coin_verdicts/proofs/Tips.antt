@@ -1,15 +1,16 @@
 -- The blocks at which a wallet may have held a coin, by its notes, are those that events say.
-use Rattle.std.proofs.Common.{◌≡◌, ℕ, ◌+◌, ◌==◌, ◌&&◌, not, Bool, true, false, if◌then◌else◌, List, [], ◌∷◌, ◌++◌, length, map, filter, Option, Some, None, refl, ap, sym, ◌∙◌}
+use Rattle.std.proofs.Common.{◌≡◌, ℕ, ◌+◌, ◌==◌, ◌&&◌, not, Bool, true, false, if◌then◌else◌, List, [], ◌∷◌, ◌++◌, length, map, filter, Option, Some, None, refl, arith}
 use Rattle.std.proofs.lemmas.Bool.{false≢true}
+use Rattle.std.proofs.lemmas.Grind.{common_steps}
 use Rattle.plasma_tx.specs.declared.owner.Owner.{Owner}
 use Rattle.plasma_tx.specs.declared.call.RootCall.{RootCall}
 use Rattle.plasma_tx.specs.declared.views.CoinView.{CoinView}
 use Rattle.plasma_tx.specs.Views.{blocks, coins, coin_at, Exit, exit_at}
 use Rattle.plasma_tx.specs.Shown.{Tests, Rules}
 use Rattle.coin_history.specs.declared.bundle.Bundle.{Bundle}
-use Rattle.wallet_core.specs.State.{own_deposit, greatest}
+use Rattle.wallet_core.specs.State.{own_deposit}
 use Rattle.world_rules.specs.Events.{Event, Joins, Accepts, Binds, TakesBack, Watches, log_of, wallet_owner, accepted}
-use Rattle.world_rules.specs.Verdicts.{ever_held, own_deposit_of, possible_tips, held_tip, is_finish_paid}
+use Rattle.world_rules.specs.Verdicts.{ever_held, held_tip, is_finish_paid}
 use Rattle.coin_verdicts.specs.declared.fact.Fact.{Fact}
 use Rattle.coin_verdicts.specs.declared.note.Note.{Note}
 use Rattle.coin_verdicts.specs.declared.note.Change.{Change}
@@ -37,9 +38,7 @@ module _ (w : ℕ) (me : Owner) (line : ℕ) (notes : List Note) (tips deposit :
   one-more : (change : Change) → is_tipless change ≡ true
       → SaysTips w me tips deposit (record { line = line; change = change } ∷ notes)
   unfolding tips_in deposited_in
-  one-more (Change.Deposits block owner) is = absurd (false≢true is)
-  one-more (Change.Accepts wallet tip) is = absurd (false≢true is)
-  one-more change is = record { tips_are = same.tips_are; deposit_is = same.deposit_is }
+  one-more change is = grind (arith, common_steps, false≢true) steps 20000
 
   where-more : (b : Bool) (change : Change) → is_tipless change ≡ true
       → SaysTips w me tips deposit (noted line (where_so b change) ++ notes)
@@ -63,27 +62,14 @@ module _ (w : ℕ) (me : Owner) (line : ℕ) (notes : List Note) (tips deposit :
       (map (λ one. one.tip) (filter (λ one. one.coin == c) (if v == w then bundle ∷ bundles else bundles))) deposit
       (noted line (where_so b (Change.Accepts v bundle.tip)) ++ notes)
   unfolding tips_in deposited_in
-  accepts-more true v bundle c bundles coin was = record { tips_are = at (v == w); deposit_is = same.deposit_is }
-    where
-      at : (d : Bool) → (if d then bundle.tip ∷ tips_in w notes else tips_in w notes)
-          ≡ map (λ one. one.tip) (filter (λ one. one.coin == c) (if d then bundle ∷ bundles else bundles))
-      at true = rw coin (ap (λ ts. bundle.tip ∷ ts) (same.tips_are ∙ sym was))
-      at false = same.tips_are ∙ sym was
-  accepts-more false v bundle c bundles coin was = record { tips_are = at (v == w); deposit_is = same.deposit_is }
-    where
-      at : (d : Bool) → tips_in w notes
-          ≡ map (λ one. one.tip) (filter (λ one. one.coin == c) (if d then bundle ∷ bundles else bundles))
-      at true = rw coin (same.tips_are ∙ sym was)
-      at false = same.tips_are ∙ sym was
+  accepts-more b v bundle c bundles coin was = grind (arith, common_steps) steps 20000
 
   deposits-more : (b : Bool) (block amount : ℕ) (owner : Owner) (made : Option CoinView) → own_deposit me made ≡ deposit
       → SaysTips w me tips
       (own_deposit me (if b then Some (record { deposit = block; amount = amount; owner = owner }) else made))
       (noted line (where_so b (Change.Deposits block owner)) ++ notes)
   unfolding tips_in deposited_in
-  deposits-more true block amount owner made was = record { tips_are = same.tips_are; deposit_is = refl }
-  deposits-more false block amount owner made was =
-      record { tips_are = same.tips_are; deposit_is = same.deposit_is ∙ sym was }
+  deposits-more b block amount owner made was = grind (arith, common_steps) steps 20000
 
 each-more : (w : ℕ) (me : Owner) (line : ℕ) (notes : List Note) (tips deposit : List ℕ)
     → SaysTips w me tips deposit notes → (c : ℕ) (change : Change) (met : List ℕ) → is_tipless change ≡ true
@@ -171,10 +157,4 @@ pub tip-same : (tests : Tests) (rules : Rules) (holder : Holder) (c : ℕ) (even
     → held_tip events holder.wallet c ≡ tip_in holder (notes_in facts c)
 unfolding held_tip tip_in
 tip-same tests rules holder c events facts are owner ever =
-    let says = says-tips tests rules holder.wallet holder.owner c events facts are in
-    ap greatest (filter-ext (ever_held events holder.wallet c) (was_held holder (notes_in facts c))
-    (possible_tips events holder.wallet c) ever
-    ∙ ap (filter (was_held holder (notes_in facts c)))
-    (ap (λ o. own_deposit_of o (coin_at (log_of events) c)
-    ++ map (λ bundle. bundle.tip) (filter (λ bundle. bundle.coin == c) (accepted events holder.wallet))) owner
-    ∙ rw (says.tips_are, says.deposit_is) refl))
+    grind (arith, common_steps, says-tips, filter-ext) steps 20000

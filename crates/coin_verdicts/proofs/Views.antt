@@ -1,6 +1,7 @@
 -- What facts say of the leaves of wallets is what events say.
-use Rattle.std.proofs.Common.{◌≡◌, ℕ, ◌==◌, true, false, if◌then◌else◌, List, [], ◌∷◌, map, refl, ap}
+use Rattle.std.proofs.Common.{◌≡◌, ℕ, ◌==◌, true, if◌then◌else◌, List, [], ◌∷◌, map, refl, ap, arith}
 use Rattle.std.proofs.lemmas.Bool.{false≢true}
+use Rattle.std.proofs.lemmas.Grind.{common_steps}
 use Rattle.plasma_tx.specs.declared.body.Body.{Body}
 use Rattle.plasma_tx.specs.Shown.{Tests, Rules}
 use Rattle.world_rules.specs.Events.{Event, Joins, Binds, TakesBack, Watches, log_of, bound_by, taken_back}
@@ -16,32 +17,19 @@ leaf_of body = record { coin = body.coin; parent = body.parent }
 call-bound : (fact : Fact) (facts : List Fact) (w : ℕ) → is_of_call fact ≡ true
     → bound_in (fact ∷ facts) w ≡ bound_in facts w
 unfolding bound_in
-call-bound (Fact.Deposits coin block owner) facts w h = refl
-call-bound (Fact.Ticks met) facts w h = refl
-call-bound (Fact.Ends coin block account paid) facts w h = refl
-call-bound Fact.Joins facts w h = refl
-call-bound fact facts w h = absurd (false≢true h)
+call-bound fact facts w h = grind (arith, common_steps, false≢true) steps 20000
 
 call-taken : (fact : Fact) (facts : List Fact) (w : ℕ) → is_of_call fact ≡ true
     → taken_in (fact ∷ facts) w ≡ taken_in facts w
 unfolding taken_in
-call-taken (Fact.Deposits coin block owner) facts w h = refl
-call-taken (Fact.Ticks met) facts w h = refl
-call-taken (Fact.Ends coin block account paid) facts w h = refl
-call-taken Fact.Joins facts w h = refl
-call-taken fact facts w h = absurd (false≢true h)
+call-taken fact facts w h = grind (arith, common_steps, false≢true) steps 20000
 
 module _ (tests : Tests) (rules : Rules) where
   bound-step : (event : Event) (events : List Event) (fact : Fact) (facts : List Fact) (w : ℕ)
       → IsFact tests rules events event fact → bound_in facts w ≡ map leaf_of (bound_by events w)
       → bound_in (fact ∷ facts) w ≡ map leaf_of (bound_by (event ∷ events) w)
   unfolding bound_in bound_by
-  bound-step (Binds v body) events fact facts w h same =
-      rw h (elim (v == w) as (λ b. (if b then leaf_of body ∷ bound_in facts w else bound_in facts w)
-      ≡ map leaf_of (if b then body ∷ bound_by events w else bound_by events w)) [
-        | true ↦ ap (λ leaves. leaf_of body ∷ leaves) same
-        | false ↦ same
-      ])
+  bound-step (Binds v body) events fact facts w h same = grind (arith, common_steps) steps 20000
   bound-step (Joins call) events fact facts w h same =
       rw (call-bound fact facts w (call-form tests rules (log_of events) call fact h)) same
   bound-step (Watches n calls) events fact facts w h same = rw (watch-form n calls fact h).is same

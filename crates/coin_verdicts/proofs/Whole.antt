@@ -1,15 +1,14 @@
 -- The verdicts by facts are those of the events.
-use Rattle.std.proofs.Common.{◌≡◌, ℕ, ◌+◌, Bool, false, List, [], ◌∷◌, ◌++◌, Option, Some, None, refl, ap, sym, ◌∙◌, arith}
-use Rattle.std.specs.Prelude.{option_map, option_and_then}
-use Rattle.std.specs.List.{filter_map, flat_map, range_with_len}
+use Rattle.std.proofs.Common.{◌≡◌, ℕ, ◌+◌, Bool, List, [], ◌∷◌, ◌++◌, Option, Some, None, refl, ap, sym, ◌∙◌, arith}
+use Rattle.std.specs.Prelude.{option_map}
+use Rattle.std.specs.List.{filter_map, flat_map}
+use Rattle.std.proofs.lemmas.Grind.{common_steps}
 use Rattle.plasma_tx.specs.declared.call.RootCall.{RootCall}
-use Rattle.plasma_tx.specs.Views.{coins, Exit, exit_at}
+use Rattle.plasma_tx.specs.Views.{coins, Exit}
 use Rattle.plasma_tx.specs.Shown.{Tests, Rules}
 use Rattle.plasma_tx.specs.Table.{IsLegal}
-use Rattle.world_rules.specs.declared.verdict.Verdict.{Verdict}
-use Rattle.world_rules.specs.declared.verdict.VerdictKind.{VerdictKind}
 use Rattle.world_rules.specs.Events.{Event, Joins, Watches, log_of, wallet_owner}
-use Rattle.world_rules.specs.Verdicts.{held_tip, is_finish_paid, verdict_at, Named, verdict_on, verdict_of, verdicts_on}
+use Rattle.world_rules.specs.Verdicts.{held_tip, verdict_at, Named, verdict_of, verdicts_on}
 use Rattle.coin_verdicts.specs.declared.fact.Fact.{Fact}
 use Rattle.coin_verdicts.specs.declared.note.Holder.{Holder}
 use Rattle.coin_verdicts.specs.Facts.{ended, IsFact, AreFacts, OwnersStay}
@@ -60,18 +59,13 @@ module _ (tests : Tests) (rules : Rules) where
   coins-step (Joins (RootCall.Deposit account amount key)) events fact facts h same =
       ap (λ k. coins_in facts + made_by k) h ∙ ap (λ n. n + 1) same
   coins-step (Joins (RootCall.Tick time)) events fact facts h same =
-      none-made (made_by fact) (coins_in facts) (coins (log_of events))
-      (ap made_by (tick-form (log_of events) time fact h).is) same
+      grind (arith, common_steps, none-made, tick-form) steps 20000
   coins-step (Joins (RootCall.After account coin block spend)) events fact facts h same =
-      none-made (made_by fact) (coins_in facts) (coins (log_of events))
-      (ap made_by h ∙ ended-makes (exit_at (log_of events) coin block) coin block false) same
+      grind (arith, common_steps, none-made, ended-makes) steps 20000
   coins-step (Joins (RootCall.Between account coin block spend)) events fact facts h same =
-      none-made (made_by fact) (coins_in facts) (coins (log_of events))
-      (ap made_by h ∙ ended-makes (exit_at (log_of events) coin block) coin block false) same
+      grind (arith, common_steps, none-made, ended-makes) steps 20000
   coins-step (Joins (RootCall.Finish account coin block)) events fact facts h same =
-      none-made (made_by fact) (coins_in facts) (coins (log_of events))
-      (ap made_by h ∙ ended-makes (exit_at (log_of events) coin block) coin block
-      (is_finish_paid tests rules (log_of events) account coin block)) same
+      grind (arith, common_steps, none-made, ended-makes) steps 20000
   coins-step (Joins call) events fact facts h same =
       none-made (made_by fact) (coins_in facts) (coins (log_of events)) (ap made_by h) same
   coins-step (Watches n calls) events fact facts h same =
@@ -94,9 +88,7 @@ module _ (tests : Tests) (rules : Rules) where
 
     undeclared : (wallet : Named) → wallet_owner events wallet.number ≡ None
         → verdicts_on tests rules events wallet ≡ []
-    undeclared wallet none =
-        filter_map-nothing (verdict_of tests rules events wallet) (range_with_len 1 (coins (log_of events)))
-        (λ c. ap (λ o. option_and_then (λ me. verdict_on tests rules events wallet me c) o) none)
+    undeclared wallet none = grind (arith, common_steps, filter_map-nothing) steps 20000
 
     -- the verdict on one coin
     coin-same : (wallet : Named) (holder : Holder) (c : ℕ) → holder.wallet ≡ wallet.number
@@ -105,18 +97,7 @@ module _ (tests : Tests) (rules : Rules) where
         ≡ kind_of (standing_in holder e (notes_in facts c)))
         → held_tip events holder.wallet c ≡ tip_in holder (notes_in facts c)
         → verdict_of tests rules events wallet c ≡ verdict_in facts holder wallet.name c
-    coin-same wallet holder c own is kinds tips =
-        ap (λ o. option_and_then (λ me. verdict_on tests rules events wallet me c) o) is
-        ∙ ap (λ (n : ℕ). option_map (λ e. verdict wallet c (verdict_at tests rules events holder.owner n c e))
-        (held_tip events n c)) (sym own)
-        ∙ ap (λ (o : Option ℕ). option_map (λ e. verdict wallet c
-        (verdict_at tests rules events holder.owner holder.wallet c e)) o) tips
-        ∙ map-twice (λ e. verdict wallet c (verdict_at tests rules events holder.owner holder.wallet c e))
-        (λ kind. verdict wallet c kind) (λ e. kind_of (standing_in holder e (notes_in facts c)))
-        (tip_in holder (notes_in facts c)) (λ e. ap (verdict wallet c) (kinds e))
-      where
-        verdict : Named → ℕ → VerdictKind → Verdict
-        verdict named coin kind = record { wallet = named.name; coin = coin; kind = kind }
+    coin-same wallet holder c own is kinds tips = grind (arith, common_steps, map-twice) steps 20000
 
     pub wallet-same : (wallet : Named) → verdicts_for facts wallet ≡ verdicts_on tests rules events wallet
     wallet-same wallet =
@@ -125,12 +106,7 @@ module _ (tests : Tests) (rules : Rules) where
           | Somebody holder found own is early so ↦
               ap (verdicts_where facts wallet.name) found
               ∙ ap (λ n. verdicts_by facts holder wallet.name n) (coins-same events facts are)
-              ∙ sym (filter_map-ext (verdict_of tests rules events wallet) (verdict_in facts holder wallet.name)
-              (range_with_len 1 (coins (log_of events)))
-              (λ c. coin-same wallet holder c own is
-              (λ e. kind-same tests rules holder c e events facts are legal so early)
-              (tip-same tests rules holder c events facts are (ap (wallet_owner events) own ∙ is)
-              (λ e. ever-same tests rules holder c e events facts are legal so early))))
+              ∙ sym (grind (arith, common_steps, filter_map-ext, coin-same, kind-same, tip-same, ever-same) steps 20000)
         ]
 
     pub all-same : (wallets : List Named)

@@ -3,10 +3,11 @@ use Rattle.std.proofs.Common.{◌≡◌, ℕ, ◌==◌, true, List, [], ◌++◌
 use Rattle.std.specs.List.{slice_range}
 use Rattle.std.proofs.lemmas.Bool.{and_from, eq-eqb}
 use Rattle.std.proofs.lemmas.List.{length-append}
+use Rattle.std.proofs.lemmas.Grind.{common_steps}
 use Rattle.plasma_tx.specs.declared.owner.Owner.{Owner}
 use Rattle.plasma_tx.specs.declared.body.Body.{Body}
 use Rattle.plasma_tx.specs.declared.signed_tx.SignedTx.{SignedTx}
-use Rattle.plasma_tx.specs.Spelling.{IsBody, mark_of, number_text, owner_text, common_text, body_text, signed_text, body_in, body_length, body_at_start}
+use Rattle.plasma_tx.specs.Spelling.{IsBody, number_text, owner_text, common_text, body_text, signed_text, body_in, body_length, body_at_start}
 use Rattle.plasma_tx.proofs.Spellings.{Fits, body_in-fits, signed_in-text, signed_in-ok, common-long}
 use Rattle.node_rules.specs.WalletRecords.{is_body}
 
@@ -33,10 +34,7 @@ module _ (tag : List ℕ) (coin parent : ℕ) (to : Owner) (tag_long : length ta
     owner-long = omega (arith, length-append (number_text to.account) to.key)
 
     front-long : (last : Option ℕ) → length (common_text (body last)) ≡ 116
-    front-long None = common-long (mark_of None) tag (number_text coin) (number_text parent) (owner_text to) [] refl
-        tag_long refl refl owner-long
-    front-long (Some last) = common-long (mark_of (Some last)) tag (number_text coin) (number_text parent)
-        (owner_text to) [] refl tag_long refl refl owner-long
+    front-long last = grind (arith, common_steps, common-long, owner-long) steps 20000
 
     pub text-long : (last : Option ℕ) → length (body_text (body last)) ≡ text_length last
     unfolding body_text

@@ -1,11 +1,12 @@
 -- The links of a coin that a wallet holds or leaves with end at its tip.
-use Rattle.std.proofs.Common.{◌≡◌, ◌≢◌, ℕ, suc, ◌-◌, ◌==◌, ◌&&◌, Bool, true, false, if◌then◌else◌, List, [], ◌∷◌, ◌++◌, length, map, drop, filter, find, Option, Some, None, is_some, is_ok, inl, inr, refl, sym, ap, ◌∙◌, subst, arith}
-use Rattle.std.specs.Prelude.{slice_get, unwrap_or}
+use Rattle.std.proofs.Common.{◌≡◌, ◌≢◌, ℕ, suc, ◌-◌, ◌==◌, ◌&&◌, Bool, true, false, if◌then◌else◌, List, [], ◌∷◌, length, map, drop, filter, find, Option, Some, None, is_some, is_ok, inl, inr, refl, sym, ap, ◌∙◌, subst, arith}
+use Rattle.std.specs.Prelude.{unwrap_or}
 use Rattle.std.specs.List.{All, filter_map, list_all, cons_option}
-use Rattle.std.specs.Option.{option_map, option_map_or}
+use Rattle.std.specs.Option.{option_map}
 use Rattle.std.proofs.lemmas.List.{map-append}
 use Rattle.std.proofs.lemmas.Bool.{cases_Bool, and_parts, eqb-true, eq-eqb, false≢true}
-use Rattle.std.proofs.lemmas.List.Elements.{All-nil, All-cons, All-head, All-tail, All-push, All-contains, Contains-append_cases}
+use Rattle.std.proofs.lemmas.List.Elements.{All-nil, All-head, All-tail, All-push, All-contains, Contains-append_cases}
+use Rattle.std.proofs.lemmas.Grind.{common_steps}
 use Rattle.plasma_tx.specs.declared.opening.RawOpening.{RawOpening}
 use Rattle.plasma_tx.specs.declared.signed_tx.SignedTx.{SignedTx}
 use Rattle.plasma_tx.specs.declared.links.Links.{Links}
@@ -14,19 +15,17 @@ use Rattle.plasma_tx.specs.declared.views.CoinView.{CoinView}
 use Rattle.plasma_tx.specs.Links.{tip_of}
 use Rattle.plasma_tx.specs.declared.owner.Owner.{Owner}
 use Rattle.plasma_tx.specs.Openings.{opening_in}
-use Rattle.plasma_tx.specs.Spelling.{number_at}
 use Rattle.plasma_tx.specs.Views.{coin_at}
 use Rattle.plasma_tx.proofs.Names.{some_same}
 use Rattle.coin_history.specs.declared.bundle.Bundle.{Bundle}
-use Rattle.coin_history.specs.Bundles.{bundle_in}
 use Rattle.coin_history.specs.History.{transfer_of, links_in, links_of}
 use Rattle.coin_history.proofs.HistoryLinks.{tip_from, tip-is, with_tx}
 use Rattle.wallet_core.specs.declared.notes.CoinTip.{CoinTip}
-use Rattle.wallet_core.specs.State.{is_owner, own_deposit, noted_tips}
+use Rattle.wallet_core.specs.State.{own_deposit, noted_tips}
 use Rattle.wallet_core.specs.Laws.{IsTip}
 use Rattle.node_rules.specs.Kept.{chain_of, shows_link, ends_at, is_kept, kept_in, kept_links}
 use Rattle.node_rules.specs.Watcher.{is_of}
-use Rattle.node_rules.specs.WalletRecords.{short_at, owner_of, Note, Accepts, LeavesWith, Reclaims, accepts, note_in, who_is, notes_of, accepted_of, coin_tip, state_notes}
+use Rattle.node_rules.specs.WalletRecords.{Note, Accepts, LeavesWith, Reclaims, accepts, note_in, who_is, notes_of, accepted_of, coin_tip, state_notes}
 use Rattle.node_rules.specs.Wallet.{WalletRecords, who, noted, links_at}
 use Rattle.node_rules.specs.WalletCommandLaws.{HaveOpenings, ExitsAreOfTheTip}
 use Rattle.node_rules.proofs.KeptTexts.{only_kept-ok}
@@ -40,21 +39,12 @@ shown-ends : (dig : List ℕ → List ℕ) (tag : List ℕ) (coin tip block : �
 unfolding links_in
 shown-ends dig tag coin tip block [] some all ends = absurd (some refl)
 shown-ends dig tag coin tip block (one ∷ []) some all ends =
-    let shows = and_parts (shows_link dig tag coin one) true all in
-    let spells = (and_parts (is_ok (opening_in dig one)) (is_some (transfer_of (chain_of tag) coin one)) shows.0).1 in
-    at (transfer_of (chain_of tag) coin one) spells
-  where
-    at : (tx : Option SignedTx) → is_some tx ≡ true
-        → tip_from block (cons_option (option_map (with_tx one) tx) []) ≡ tip
-    at None wrong = absurd (false≢true wrong)
-    at (Some tx) right = eqb-true one.block tip ends
+    grind (arith, common_steps, and_parts, tip_from, with_tx, false≢true, eqb-true) steps 20000
 shown-ends dig tag coin tip block (one ∷ next ∷ openings) some all ends =
     let shows = and_parts (shows_link dig tag coin one) (list_all (shows_link dig tag coin) (next ∷ openings)) all in
     let spells = (and_parts (is_ok (opening_in dig one)) (is_some (transfer_of (chain_of tag) coin one)) shows.0).1 in
     let e : suc (length (next ∷ openings) - 1) ≡ length (one ∷ next ∷ openings) - 1 = omega arith in
-    let behind : ends_at tip (next ∷ openings) ≡ true =
-    ap (λ (n : ℕ). option_map_or (λ (o : RawOpening). o.block == tip) (slice_get (one ∷ next ∷ openings) n) true) e
-    ∙ ends in
+    let behind : ends_at tip (next ∷ openings) ≡ true = grind (arith, common_steps) steps 20000 in
     let more : next ∷ openings ≢ [] = λ wrong. absurd (cc wrong) in
     at (shown-ends dig tag coin tip one.block (next ∷ openings) more shows.1 behind)
     (transfer_of (chain_of tag) coin one) spells
@@ -83,10 +73,7 @@ IsShown dig tag note = Unit {0}
 
 accepts-shown : (dig : List ℕ → List ℕ) (tag bytes : List ℕ) (found : Option Bundle) (note : Note)
     → kept_in dig tag bytes ≡ found → accepts found ≡ Some note → IsShown dig tag note
-accepts-shown dig tag bytes None note reads is = absurd (cc is)
-accepts-shown dig tag bytes (Some kept) note reads is =
-    subst (IsShown dig tag) (some_same (Accepts kept) note is)
-    (only_kept-ok dig tag (bundle_in bytes) kept reads).1
+accepts-shown dig tag bytes found note reads is = grind (arith, common_steps, some_same, only_kept-ok) steps 20000
 
 note-shown : (dig : List ℕ → List ℕ) (tag body : List ℕ) (note : Note) → note_in dig tag body ≡ Some note
     → IsShown dig tag note
@@ -98,14 +85,10 @@ note-shown dig tag (mark ∷ bytes) note h = elim (cases_Bool (mark == 2)) [
       accepts-shown dig tag bytes (kept_in dig tag bytes) note refl is
   | inr other ↦ elim (cases_Bool ((mark == 3) && (length bytes == 16))) [
     | inl leaves ↦
-        let read : Note = LeavesWith (number_at bytes 0) (number_at bytes 8) in
-        let is : Some read ≡ Some note = rw (other, leaves) at h in
-        subst (IsShown dig tag) (some_same read note is) tt
+        grind (arith, common_steps, some_same) steps 20000
     | inr neither ↦ elim (cases_Bool ((mark == 5) && (length bytes == 20))) [
       | inl reclaims ↦
-          let read : Note = Reclaims (number_at bytes 0) (number_at bytes 8) (short_at bytes 16) in
-          let is : Some read ≡ Some note = rw (other, neither, reclaims) at h in
-          subst (IsShown dig tag) (some_same read note is) tt
+          grind (arith, common_steps, some_same) steps 20000
       | inr none ↦ let bad : None ≡ Some note = rw (other, neither, none) at h in absurd (cc bad)
     ]
   ]
@@ -141,9 +124,7 @@ pub accepted-tips : (me : Owner) (notes : List Note)
     → (state_notes me notes).accepted ≡ map (λ kept. coin_tip kept.coin kept.tip) (accepted_of notes)
 unfolding state_notes accepted_of
 accepted-tips me [] = refl
-accepted-tips me (Accepts kept ∷ notes) =
-    ap (λ (l : List CoinTip). l ++ coin_tip kept.coin kept.tip ∷ []) (accepted-tips me notes)
-    ∙ sym (map-append (λ (one : Bundle). coin_tip one.coin one.tip) (accepted_of notes) (kept ∷ []))
+accepted-tips me (Accepts kept ∷ notes) = grind (arith, common_steps, accepted-tips me notes, map-append) steps 20000
 accepted-tips me (LeavesWith coin tip ∷ notes) = accepted-tips me notes
 accepted-tips me (Reclaims coin tip q ∷ notes) = accepted-tips me notes
 
@@ -182,19 +163,14 @@ none-kept coin tip (one ∷ all) is = by (none-kept coin tip all) (one.coin == c
         → AreApart tip (map (λ note. note.tip)
         (if same then coin_tip one.coin one.tip ∷ kept_of_coin coin all else kept_of_coin coin all))
     by more true true here wrong = absurd (cc wrong)
-    by more true false apart none =
-        let other : one.tip ≢ tip = λ e. false≢true (sym apart ∙ eq-eqb one.tip tip e) in
-        All-cons (λ n. n ≢ tip) one.tip (tips_kept coin all) other (more none)
+    by more true false apart none = grind (arith, common_steps, false≢true, eq-eqb) steps 20000
     by more false at here none = more none
 
 own-is : (me : Owner) (log : List RootCall) (coin : ℕ) (made : CoinView) → coin_at log coin ≡ Some made
     → All (λ n. n ≡ made.deposit) (own_deposit me (coin_at log coin))
 own-is me log coin made is =
     subst (λ (o : Option CoinView). All (λ n. n ≡ made.deposit) (own_deposit me o)) (sym is)
-    (elim (is_owner made.owner me) as (λ b. All (λ n. n ≡ made.deposit) (if b then made.deposit ∷ [] else [])) [
-      | true ↦ All-cons (λ n. n ≡ made.deposit) made.deposit [] refl (All-nil (λ n. n ≡ made.deposit))
-      | false ↦ All-nil (λ n. n ≡ made.deposit)
-    ])
+    (grind (arith, common_steps) steps 20000)
 
 module _ (dig : List ℕ → List ℕ) (wallet : WalletRecords) (log : List RootCall) (coin tip : ℕ) (links : Links)
     (is : IsTip (noted dig wallet) log coin tip) (have : HaveOpenings dig wallet) where
@@ -220,12 +196,9 @@ module _ (dig : List ℕ → List ℕ) (wallet : WalletRecords) (log : List Root
   own-tip made none some =
       let me = (noted dig wallet).me in
       let listed = noted_tips coin (noted dig wallet).accepted in
-      let apart : All (λ n. n ≢ tip) listed =
-      subst (λ (l : List CoinTip). All (λ n. n ≢ tip) (noted_tips coin l))
-      (sym (accepted-tips (owner_of (who wallet)) (notes_of dig wallet.notes))) (none-kept coin tip all none) in
+      let apart : All (λ n. n ≢ tip) listed = grind (arith, common_steps, accepted-tips, none-kept) steps 20000 in
       elim (Contains-append_cases (own_deposit me (coin_at log coin)) listed tip is.is_one) [
-        | inl own ↦ sym (All-contains (λ n. n ≡ made.deposit) (own_deposit me (coin_at log coin)) tip
-            (own-is me log coin made some) own)
+        | inl own ↦ grind (arith, common_steps, own-is) steps 20000
         | inr noted_one ↦ absurd (All-contains (λ n. n ≢ tip) listed tip apart noted_one refl)
       ]
 

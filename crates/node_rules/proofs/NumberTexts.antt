@@ -1,9 +1,10 @@
 -- The bytes of two numbers, of a tag and an account, and of short numbers.
-use Rattle.std.proofs.Common.{◌≡◌, ℕ, ◌+◌, ◌^◌, ◌<◌, ◌≤◌, List, ◌++◌, [], length, take, refl, sym, ap, ◌∙◌, append-nil, arith}
+use Rattle.std.proofs.Common.{◌≡◌, ℕ, ◌+◌, ◌^◌, ◌<◌, ◌≤◌, List, ◌++◌, length, take, refl, ap, ◌∙◌, arith}
 use Rattle.std.specs.List.{slice_range}
 use Rattle.std.specs.Int.{w32, to_be_bytes, from_be_bytes}
 use Rattle.std.proofs.lemmas.List.{length-append, take_all}
 use Rattle.std.proofs.lemmas.Nat.{from_be_bytes-to_be_bytes_4}
+use Rattle.std.proofs.lemmas.Grind.{common_steps}
 use Rattle.plasma_tx.specs.Spelling.{AreBytes, number_text, number_at}
 use Rattle.plasma_tx.proofs.Parts.{range-front, range-back, range-join, length-range, bytes-range, number-bytes, number-in, short_number-bytes}
 
@@ -13,19 +14,12 @@ use Rattle.plasma_tx.proofs.Parts.{range-front, range-back, range-join, length-r
 pub first-read : (one other : ℕ) (rest : List ℕ) → one < 2 ^ 64
     → number_at (number_text one ++ number_text other ++ rest) 0 ≡ one
 first-read one other rest small =
-    number-in (number_text one ++ number_text other ++ rest) 0 one small
-    (range-front (number_text one ++ number_text other) rest 0 8 (omega arith)
-    (omega (arith, length-append (number_text one) (number_text other)))
-    ∙ range-front (number_text one) (number_text other) 0 8 (omega arith) (omega arith)
-    ∙ take_all 8 (number_text one) (omega arith))
+    grind (arith, common_steps, number-in, range-front, length-append, take_all) steps 20000
 
 pub second-read : (one other : ℕ) (rest : List ℕ) → other < 2 ^ 64
     → number_at (number_text one ++ number_text other ++ rest) 8 ≡ other
 second-read one other rest small =
-    number-in (number_text one ++ number_text other ++ rest) 8 other small
-    (range-front (number_text one ++ number_text other) rest 8 16 (omega arith)
-    (omega (arith, length-append (number_text one) (number_text other)))
-    ∙ range-back (number_text one) (number_text other) 8 16 refl refl)
+    grind (arith, common_steps, number-in, range-front, length-append, range-back) steps 20000
 
 -- and their bytes are the first sixteen
 pub two-bytes : (bytes : List ℕ) → AreBytes bytes → 16 ≤ length bytes
@@ -67,14 +61,10 @@ tag-bytes bytes small long =
 -- ---- two numbers alone
 
 pub pair-first : (one other : ℕ) → one < 2 ^ 64 → number_at (number_text one ++ number_text other) 0 ≡ one
-pair-first one other small =
-    ap (λ (l : List ℕ). number_at l 0) (sym (append-nil (number_text one ++ number_text other)))
-    ∙ first-read one other [] small
+pair-first one other small = grind (arith, common_steps, first-read) steps 20000
 
 pub pair-second : (one other : ℕ) → other < 2 ^ 64 → number_at (number_text one ++ number_text other) 8 ≡ other
-pair-second one other small =
-    ap (λ (l : List ℕ). number_at l 8) (sym (append-nil (number_text one ++ number_text other)))
-    ∙ second-read one other [] small
+pair-second one other small = grind (arith, common_steps, second-read) steps 20000
 
 -- ---- numbers of four bytes
 

@@ -1,9 +1,10 @@
 -- Records with one more.
-use Rattle.std.proofs.Common.{◌≡◌, List, [], ◌∷◌, ◌++◌, Option, Some, None, refl, sym, ap, ◌∙◌, subst}
+use Rattle.std.proofs.Common.{◌≡◌, List, [], ◌∷◌, ◌++◌, Option, Some, None, refl, sym, subst, arith}
 use Rattle.std.specs.Prelude.{IfSome, reverse}
 use Rattle.std.specs.List.{All, filter_map, cons_option}
 use Rattle.std.proofs.lemmas.List.{reverse-append}
 use Rattle.std.proofs.lemmas.List.Elements.{All-nil, All-cons, All-head, All-tail, All-push, filter_map-append}
+use Rattle.std.proofs.lemmas.Grind.{common_steps}
 
 -- what holds of a record, wherever there is one
 pub if_some-each : {X : Type 0} (found : Option X) (P : X → Type 0) → ((x : X) → found ≡ Some x → P x)
@@ -19,10 +20,7 @@ reverse-one (Some x) xs = refl
 -- what is read of things with one more, the newest first: what is read of that one, before the rest
 pub reverse-grow : {X Y : Type 0} (read : X → Option Y) (xs : List X) (x : X)
     → reverse (filter_map read (xs ++ x ∷ [])) ≡ cons_option (read x) (reverse (filter_map read xs))
-reverse-grow read xs x =
-    ap (λ ys. reverse ys) (filter_map-append read xs (x ∷ []))
-    ∙ reverse-append (filter_map read xs) (cons_option (read x) [])
-    ∙ reverse-one (read x) (reverse (filter_map read xs))
+reverse-grow read xs x = grind (arith, common_steps, filter_map-append, reverse-append, reverse-one) steps 20000
 
 -- what holds of each holds of each the other way round
 pub All-reverse : {X : Type 0} (P : X → Type 0) (xs : List X) → All P xs → All P (reverse xs)

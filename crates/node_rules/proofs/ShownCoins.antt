@@ -1,10 +1,11 @@
 -- What the openings of a kept coin show.
-use Rattle.std.proofs.Common.{◌≡◌, ◌<◌, ◌+◌, ◌==◌, ◌&&◌, ℕ, Bool, true, false, if◌then◌else◌, List, [], ◌∷◌, ◌++◌, length, take, get_or, Option, None, Some, Ok, is_ok, is_some, refl, sym, ◌∙◌, ap}
-use Rattle.std.specs.List.{list_all, filter_map}
+use Rattle.std.proofs.Common.{◌≡◌, ◌<◌, ◌+◌, ◌==◌, ◌&&◌, ℕ, Bool, true, false, if◌then◌else◌, List, [], ◌∷◌, ◌++◌, length, take, get_or, Option, None, Some, Ok, is_ok, is_some, refl, sym, arith}
+use Rattle.std.specs.List.{list_all}
 use Rattle.std.specs.Option.{option_map}
 use Rattle.std.proofs.lemmas.List.{take_more}
 use Rattle.std.proofs.lemmas.List.Folds.{list_all-append}
 use Rattle.std.proofs.lemmas.List.Elements.{filter_map-append}
+use Rattle.std.proofs.lemmas.Grind.{common_steps}
 use Rattle.plasma_tx.specs.declared.opening.RawOpening.{RawOpening}
 use Rattle.plasma_tx.specs.declared.opening.Opening.{Opening}
 use Rattle.plasma_tx.specs.declared.links.Link.{Link}
@@ -12,7 +13,7 @@ use Rattle.plasma_tx.specs.declared.signed_tx.SignedTx.{SignedTx}
 use Rattle.plasma_tx.specs.Openings.{opening_in}
 use Rattle.plasma_tx.specs.Transfer.{transfer_in}
 use Rattle.plasma_tx.proofs.OpeningTexts.{leaf-shown}
-use Rattle.coin_history.specs.History.{link_of, links_in, transfer_of}
+use Rattle.coin_history.specs.History.{link_of, links_in}
 use Rattle.node_rules.specs.Kept.{chain_of, shows_link}
 use Rattle.node_rules.proofs.Still.{none_left}
 
@@ -31,10 +32,7 @@ linked raw tx = option_map (λ tx. record { block = raw.block; tx = tx; opening 
 pub link-read : (dig : List ℕ → List ℕ) (tag : List ℕ) (coin : ℕ) (raw : RawOpening) (opening : Opening)
     (leaf : List ℕ) (tx : Option SignedTx) → opening_in dig raw ≡ Ok opening → leaf ≡ opening.leaf
     → tx ≡ transfer_in tag coin raw.block leaf → linked raw tx ≡ link_read dig tag coin raw
-link-read dig tag coin raw opening leaf tx reads is found =
-    let same : tx ≡ transfer_of (chain_of tag) coin raw =
-    found ∙ ap (transfer_in tag coin raw.block) (is ∙ sym (leaf-shown dig raw opening reads)) in
-    rw reads (ap (linked raw) same)
+link-read dig tag coin raw opening leaf tx reads is found = grind (arith, common_steps, leaf-shown) steps 20000
 
 -- ---- the openings in front
 
@@ -53,9 +51,7 @@ pub shown-none : (dig : List ℕ → List ℕ) (tag : List ℕ) (coin : ℕ) (op
     → Some spends
     ≡ (if list_all (shows_link dig tag coin) openings then Some (links_in (chain_of tag) coin openings) else None)
 unfolding links_in
-shown-none dig tag coin [] spends none is = ap Some is
-shown-none dig tag coin (raw ∷ openings) spends none is =
-    absurd (let same = none_left (raw ∷ openings) none in cc same)
+shown-none dig tag coin openings spends none is = grind (arith, common_steps, none_left) steps 20000
 
 some-is : (b : Bool) (found : Option Link) (link : Link) → Some link ≡ (if b then found else None)
     → (b ≡ true) × (found ≡ Some link)
@@ -72,23 +68,13 @@ pub shows-more : (dig : List ℕ → List ℕ) (tag : List ℕ) (coin : ℕ) (op
     → Shows dig tag coin (take i openings) spends → Shows dig tag coin (take (i + 1) openings) more
 unfolding links_in
 shows-more dig tag coin openings i raw spends more link less is found one shows =
-    let parts = some-is (is_ok (opening_in dig raw)) (link_of (chain_of tag) coin raw) link found in
-    let next : take (i + 1) openings ≡ take i openings ++ raw ∷ [] =
-    take_more openings i raw less ∙ ap (λ (o : RawOpening). take i openings ++ o ∷ []) (sym is) in
-    let single : link ∷ [] ≡ filter_map (link_of (chain_of tag) coin) (raw ∷ []) = rw parts.1 refl in
-    let here : shows_link dig tag coin raw ≡ true =
-    and-true (is_ok (opening_in dig raw)) (is_some (transfer_of (chain_of tag) coin raw)) parts.0
-    (is-some-from raw (transfer_of (chain_of tag) coin raw) link parts.1) in
-    record {
-      links =
-          one ∙ ap (λ (l : List Link). l ++ link ∷ []) shows.links
-          ∙ ap (λ (l : List Link). links_in (chain_of tag) coin (take i openings) ++ l) single
-          ∙ sym (filter_map-append (link_of (chain_of tag) coin) (take i openings) (raw ∷ []))
-          ∙ ap (links_in (chain_of tag) coin) (sym next);
-      all =
-          ap (list_all (shows_link dig tag coin)) next
-          ∙ list_all-append (shows_link dig tag coin) (take i openings) (raw ∷ [])
-          ∙ and-true (list_all (shows_link dig tag coin) (take i openings))
-          (list_all (shows_link dig tag coin) (raw ∷ []))
-          shows.all (and-true (shows_link dig tag coin raw) true here refl);
-    }
+    grind (
+      arith,
+      common_steps,
+      some-is,
+      take_more,
+      and-true,
+      is-some-from,
+      filter_map-append,
+      list_all-append,
+    ) steps 20000

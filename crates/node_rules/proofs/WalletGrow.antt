@@ -1,28 +1,26 @@
 -- A wallet's records with one more.
-use Rattle.std.proofs.Common.{◌≡◌, ℕ, zero, suc, ◌&&◌, ◌||◌, cond, Bool, true, false, List, [], ◌∷◌, ◌++◌, length, map, drop, Option, Some, None, is_some, is_ok, Ok, Err, refl, sym, ap, ◌∙◌, subst, eqb, ltb}
+use Rattle.std.proofs.Common.{◌≡◌, ℕ, zero, suc, ◌&&◌, ◌||◌, cond, Bool, true, false, List, [], ◌∷◌, ◌++◌, map, drop, Option, Some, is_ok, Ok, refl, ap, ◌∙◌, arith}
 use Rattle.std.specs.Prelude.{Result, reverse, slice_get}
 use Rattle.std.specs.List.{filter_map, cons_option, list_all}
 use Rattle.std.specs.Option.{option_map_or}
-use Rattle.std.specs.Int.{w32, to_be_bytes}
 use Rattle.std.specs.Ordering.{nat_cmp}
 use Rattle.std.specs.BTreeSet.{insert_key}
 use Rattle.std.proofs.lemmas.Bool.{and_parts, and_from, false≢true}
 use Rattle.std.proofs.lemmas.List.{map-append, drop_at, reverse-append}
 use Rattle.std.proofs.lemmas.List.Folds.{list_all-append}
-use Rattle.lms_sign.specs.Types.{leaf_count}
+use Rattle.std.proofs.lemmas.Grind.{common_steps}
 use Rattle.node_journal.specs.Role.{are_of, may_follow}
 use Rattle.node_journal.proofs.Roles.{notes_follow}
-use Rattle.leaf_journal.specs.Records.{binding_record, has_number, is_marked, is_marker, marker, messages_of, leaf_records_of, may_follow as may_follow_leaf, may_follow_of, with_number, MayBind}
+use Rattle.leaf_journal.specs.Records.{binding_record, is_marked, marker, messages_of, leaf_records_of, may_follow as may_follow_leaf, may_follow_of, MayBind}
 use Rattle.leaf_journal.proofs.Form.{all_same, one_more}
 use Rattle.leaf_journal.proofs.Binding.{binding-messages, marker-messages}
 use Rattle.plasma_tx.specs.declared.owner.Owner.{Owner}
 use Rattle.plasma_tx.specs.Spelling.{body_at_start}
 use Rattle.coin_history.specs.declared.bundle.Bundle.{Bundle}
 use Rattle.wallet_core.specs.declared.notes.LeafRecord.{LeafRecord}
-use Rattle.node_rules.specs.declared.identity.WalletIdentity.{WalletIdentity}
-use Rattle.node_rules.specs.WalletRecords.{identity_in, owner_of, Note, Accepts, LeavesWith, Reclaims, note_in, tag_in, wallet_kinds, no_one, who_is, notes_of, accepted_of, coin_tip, state_notes, is_body, leaves_in, may_reclaim, is_bound_note, are_bound_notes}
+use Rattle.node_rules.specs.WalletRecords.{owner_of, Note, Accepts, LeavesWith, Reclaims, note_in, tag_in, wallet_kinds, who_is, notes_of, accepted_of, coin_tip, state_notes, is_body, leaves_in, is_bound_note, are_bound_notes}
 use Rattle.node_rules.specs.Wallet.{WalletRecords, who, noted}
-use Rattle.node_rules.specs.WalletOpening.{leaves_of, are_leaves, are_bound, is_wallet, is_bound_record}
+use Rattle.node_rules.specs.WalletOpening.{leaves_of, are_bound, is_wallet, is_bound_record}
 use Rattle.node_rules.specs.WalletLaws.{AddsNote}
 use Rattle.node_rules.proofs.OneMore.{reverse-grow}
 
@@ -31,12 +29,7 @@ use Rattle.node_rules.proofs.OneMore.{reverse-grow}
 -- records begin with the identity that has their tag
 pub tag-same : (identity : List ℕ) (notes : List (List ℕ)) → (who_is (identity ∷ notes)).tag ≡ tag_in identity
 unfolding who_is
-tag-same identity notes =
-    elim (identity_in identity) as (λ o. (option_map_or (λ who. who) o no_one).tag
-    ≡ option_map_or (λ (who : WalletIdentity). who.tag) o []) [
-      | None ↦ refl
-      | Some who ↦ refl
-    ]
+tag-same identity notes = grind (arith, common_steps) steps 20000
 
 -- it is the same behind each of them
 pub who-same : (identity : List ℕ) (notes more : List (List ℕ))
@@ -49,20 +42,14 @@ pub notes-grow : (dig : List ℕ → List ℕ) (identity : List ℕ) (notes : Li
     → notes_of dig ((identity ∷ notes) ++ body ∷ [])
     ≡ cons_option (note_in dig (who_is (identity ∷ notes)).tag body) (notes_of dig (identity ∷ notes))
 unfolding notes_of
-notes-grow dig identity notes body =
-    ap (λ (who : WalletIdentity). reverse (filter_map (note_in dig who.tag) (notes ++ body ∷ [])))
-    (who-same identity notes (body ∷ []))
-    ∙ reverse-grow (note_in dig (who_is (identity ∷ notes)).tag) notes body
+notes-grow dig identity notes body = grind (arith, common_steps, who-same, reverse-grow) steps 20000
 
 -- a record that spells a note may stand behind an identity, and is read as it
 module _ (dig : List ℕ → List ℕ) (records : List (List ℕ)) (role : are_of (wallet_kinds dig) records ≡ true)
     (body : List ℕ) (note : Note) (is : note_in dig (who_is records).tag body ≡ Some note) where
   follows-at : (all : List (List ℕ)) → are_of (wallet_kinds dig) all ≡ true
       → note_in dig (who_is all).tag body ≡ Some note → may_follow (wallet_kinds dig) all body ≡ true
-  follows-at [] wrong spells = absurd (false≢true wrong)
-  follows-at (identity ∷ notes) right spells =
-      ap (λ (t : List ℕ). is_some (note_in dig t body)) (sym (tag-same identity notes))
-      ∙ ap (λ (o : Option Note). is_some o) spells
+  follows-at all wrong spells = grind (arith, common_steps, false≢true, tag-same) steps 20000
 
   pub note-follows : may_follow (wallet_kinds dig) records body ≡ true
   note-follows = follows-at records role is
@@ -72,12 +59,7 @@ module _ (dig : List ℕ → List ℕ) (records : List (List ℕ)) (role : are_o
 
   adds-at : (all : List (List ℕ)) → are_of (wallet_kinds dig) all ≡ true
       → note_in dig (who_is all).tag body ≡ Some note → AddsNote dig all note body
-  adds-at [] wrong spells = absurd (false≢true wrong)
-  adds-at (identity ∷ notes) right spells = (
-    who-same identity notes (body ∷ []),
-    notes-grow dig identity notes body
-        ∙ ap (λ (o : Option Note). cons_option o (notes_of dig (identity ∷ notes))) spells,
-  )
+  adds-at all wrong spells = grind (arith, common_steps, false≢true, who-same, notes-grow) steps 20000
 
   pub note-adds : AddsNote dig records note body
   note-adds = adds-at records role is
@@ -147,16 +129,7 @@ get-more (y ∷ ys) more (suc i) x is = get-more ys more i x is
 
 bound-note : (leaves more : List LeafRecord) (note : Note) → is_bound_note leaves note ≡ true
     → is_bound_note (leaves ++ more) note ≡ true
-bound-note leaves more (Accepts kept) is = refl
-bound-note leaves more (LeavesWith coin tip) is = refl
-bound-note leaves more (Reclaims coin tip q) is =
-    (elim (slice_get leaves q) as (λ o. slice_get leaves q ≡ o → option_map_or (may_reclaim coin tip) o false ≡ true
-    → option_map_or (may_reclaim coin tip) (slice_get (leaves ++ more) q) false ≡ true) [
-      | None ↦ λ none wrong. absurd (false≢true wrong)
-      | Some leaf ↦ λ some may.
-          ap (λ (o : Option LeafRecord). option_map_or (may_reclaim coin tip) o false)
-          (get-more leaves more q leaf some) ∙ may
-    ]) refl is
+bound-note leaves more note is = grind (arith, common_steps, false≢true, get-more) steps 20000
 
 -- notes stay bound as leaves grow
 pub bound-grow : (leaves more : List LeafRecord) (notes : List Note) → are_bound_notes leaves notes ≡ true
@@ -164,43 +137,26 @@ pub bound-grow : (leaves more : List LeafRecord) (notes : List Note) → are_bou
 bound-grow leaves more [] is = refl
 bound-grow leaves more (note ∷ notes) is =
     let parts = and_parts (is_bound_note leaves note) (are_bound_notes leaves notes) is in
-    and_from (is_bound_note (leaves ++ more) note) (are_bound_notes (leaves ++ more) notes)
-    (bound-note leaves more note parts.0) (bound-grow leaves more notes parts.1)
+    grind (arith, common_steps, bound-grow leaves more notes parts.1, and_from, bound-note) steps 20000
 
 -- ---- notes that take leaves back, by their records
 
 list_all-reverse : {X : Type 0} (p : X → Bool) (xs : List X) → list_all p (reverse xs) ≡ list_all p xs
 list_all-reverse p [] = refl
 list_all-reverse p (x ∷ xs) =
-    ap (list_all p) (reverse-append (x ∷ []) xs) ∙ list_all-append p (reverse xs) (x ∷ [])
-    ∙ ap (λ (b : Bool). b && list_all p (x ∷ [])) (list_all-reverse p xs) ∙ turned (list_all p xs) (p x)
-  where
-    turned : (a b : Bool) → (a && (b && true)) ≡ (b && a)
-    turned true true = refl
-    turned true false = refl
-    turned false true = refl
-    turned false false = refl
+    grind (arith, common_steps, list_all-reverse p xs, reverse-append, list_all-append) steps 20000
 
 list_all-filter_map : {X Y : Type 0} (read : X → Option Y) (p : Y → Bool) (xs : List X)
     → list_all p (filter_map read xs) ≡ list_all (λ x. option_map_or p (read x) true) xs
 list_all-filter_map read p [] = refl
-list_all-filter_map {X} {Y} read p (x ∷ xs) =
-    let rest = list_all-filter_map read p xs in
-    elim (read x) as (λ (o : Option Y). list_all p (cons_option o (filter_map read xs))
-    ≡ (option_map_or p o true && list_all (λ x. option_map_or p (read x) true) xs)) [
-      | None ↦ rest
-      | Some y ↦ ap (λ (b : Bool). p y && b) rest
-    ]
+list_all-filter_map {X} {Y} read p (x ∷ xs) = grind (arith, common_steps, list_all-filter_map read p xs) steps 20000
 
 -- the notes of records are bound where each record takes back no leaf, or one that may be
 pub bound-each : (dig : List ℕ → List ℕ) (leaves : List LeafRecord) (records : List (List ℕ))
     → are_bound_notes leaves (notes_of dig records)
     ≡ list_all (is_bound_record dig (who_is records).tag leaves) (drop 1 records)
 unfolding notes_of
-bound-each dig leaves records =
-    let read = note_in dig (who_is records).tag in
-    list_all-reverse (is_bound_note leaves) (filter_map read (drop 1 records))
-    ∙ list_all-filter_map read (is_bound_note leaves) (drop 1 records)
+bound-each dig leaves records = grind (arith, common_steps, list_all-reverse, list_all-filter_map) steps 20000
 
 -- ---- the wallet
 
@@ -212,31 +168,17 @@ pub record AreWallet (dig : List ℕ → List ℕ) (wallet : WalletRecords) : Ty
 read-all : (leaves : ℕ) (records : List (List ℕ)) (read : Result (List (List ℕ)) ℕ)
     → leaf_records_of is_body leaves records ≡ read → is_ok read ≡ true
     → leaf_records_of is_body leaves records ≡ Ok records
-read-all leaves records (Err place) is wrong = absurd (cc wrong)
-read-all leaves records (Ok all) is ok =
-    is ∙ ap (λ (l : List (List ℕ)). Ok l) (sym (all_same is_body leaves records all is))
+read-all leaves records read is wrong = grind (arith, common_steps, all_same) steps 20000
 
 pub wallet-parts : (dig : List ℕ → List ℕ) (wallet : WalletRecords) → is_wallet dig wallet ≡ true
     → AreWallet dig wallet
 unfolding is_wallet
-wallet-parts dig wallet is =
-    let parts = and_parts (are_of (wallet_kinds dig) wallet.notes && are_leaves wallet) (are_bound dig wallet) is in
-    let front = and_parts (are_of (wallet_kinds dig) wallet.notes) (are_leaves wallet) parts.0 in
-    record {
-      role = front.0;
-      leaves = read-all (leaves_of wallet.notes) wallet.leaves
-          (leaf_records_of is_body (leaves_of wallet.notes) wallet.leaves) refl front.1;
-      bound = parts.1;
-    }
+wallet-parts dig wallet is = grind (arith, common_steps, and_parts, read-all) steps 20000
 
 pub wallet-from : (dig : List ℕ → List ℕ) (wallet : WalletRecords) → AreWallet dig wallet
     → is_wallet dig wallet ≡ true
 unfolding is_wallet
-wallet-from dig wallet are =
-    and_from (are_of (wallet_kinds dig) wallet.notes && are_leaves wallet) (are_bound dig wallet)
-    (and_from (are_of (wallet_kinds dig) wallet.notes) (are_leaves wallet) are.role
-    (ap (λ (r : Result (List (List ℕ)) ℕ). is_ok r) are.leaves))
-    are.bound
+wallet-from dig wallet are = grind (arith, common_steps, and_from) steps 20000
 
 -- one more note of leaves that may be taken back
 pub wallet-noted : (dig : List ℕ → List ℕ) (wallet : WalletRecords) (body : List ℕ) (note : Note)
@@ -244,17 +186,7 @@ pub wallet-noted : (dig : List ℕ → List ℕ) (wallet : WalletRecords) (body 
     → is_bound_note (leaves_in wallet.leaves) note ≡ true
     → is_wallet dig (record wallet { notes = wallet.notes ++ body ∷ [] }) ≡ true
 wallet-noted dig wallet body note is reads binds =
-    let are = wallet-parts dig wallet is in
-    let adds = note-adds dig wallet.notes are.role body note reads in
-    wallet-from dig (record wallet { notes = wallet.notes ++ body ∷ [] }) (record {
-      role = note-keeps dig wallet.notes are.role body note reads;
-      leaves =
-          subst (λ (w : WalletIdentity). leaf_records_of is_body (leaf_count w.types) wallet.leaves ≡ Ok wallet.leaves)
-          (sym adds.0) are.leaves;
-      bound =
-          ap (are_bound_notes (leaves_in wallet.leaves)) adds.1
-          ∙ and_from (is_bound_note (leaves_in wallet.leaves) note) (are_bound dig wallet) binds are.bound;
-    })
+    grind (arith, common_steps, wallet-parts, note-adds, wallet-from, note-keeps, and_from) steps 20000
 
 -- one more record of a leaf, which reads as it may
 pub wallet-bound : (dig : List ℕ → List ℕ) (wallet : WalletRecords) (body : List ℕ) (more : List LeafRecord)
@@ -277,25 +209,13 @@ joined : (marked behind mark front number leaf whole : Bool)
     → cond marked (number && leaf) (mark || (whole && leaf)) ≡ true
     → (marked ≡ true → behind ≡ true) → (marked ≡ false → front ≡ true)
     → cond marked ((behind && number) && leaf) (mark || ((front && whole) && leaf)) ≡ true
-joined true behind mark front number leaf whole is second first = rw (second refl) is
-joined false behind true front number leaf whole is second first = refl
-joined false behind false front number leaf whole is second first = rw (first refl) is
+joined marked behind mark front number leaf whole is second first = grind (arith, common_steps) steps 20000
 
 -- a record that may follow by the form may follow where its message passes a test
 pub kind-follows : (is_message : List ℕ → Bool) (leaves : ℕ) (before : List (List ℕ)) (message : List ℕ)
     → may_follow_leaf leaves before (binding_record before message) ≡ true → is_message message ≡ true
     → may_follow_of is_message leaves before (binding_record before message) ≡ true
-kind-follows is_message leaves before message may passes =
-    let body = binding_record before message in
-    joined (is_marked before) (is_message (drop 4 body)) (is_marker body) (is_message body)
-    (has_number (length (messages_of before)) body) (ltb (length (messages_of before)) leaves)
-    (eqb (length body) 116) may
-    (λ marked. ap (λ (b : Bool). is_message (drop 4 (cond b (numbered before message) message))) marked
-    ∙ ap is_message (drop_at (to_be_bytes w32 (length (messages_of before))) message 4 refl) ∙ passes)
-    (λ unmarked. ap (λ (b : Bool). is_message (cond b (numbered before message) message)) unmarked ∙ passes)
-  where
-    numbered : List (List ℕ) → List ℕ → List ℕ
-    numbered records text = with_number (length (messages_of records)) text
+kind-follows is_message leaves before message may passes = grind (arith, common_steps, joined, drop_at) steps 20000
 
 -- so may the marker
 pub marker-kind : (is_message : List ℕ → Bool) (leaves : ℕ) (before : List (List ℕ)) → is_marked before ≡ false

@@ -1,8 +1,9 @@
 -- The records of a wallet stay a wallet's, and what a command added is read as it.
-use Rattle.std.proofs.Common.{◌≡◌, ◌≢◌, ℕ, ◌^◌, ◌<◌, ◌==◌, Bool, true, false, if◌then◌else◌, List, [], ◌∷◌, ◌++◌, length, Option, Some, None, Ok, Err, inl, inr, refl, sym, ap, ◌∙◌, subst, append-nil}
+use Rattle.std.proofs.Common.{◌≡◌, ◌≢◌, ℕ, ◌^◌, ◌<◌, true, List, [], ◌∷◌, ◌++◌, length, Option, Some, None, Ok, Err, inl, inr, refl, sym, ap, ◌∙◌, subst, append-nil, arith}
 use Rattle.std.specs.Prelude.{Result, find, unwrap_or, slice_get}
-use Rattle.std.specs.Option.{option_map, option_map_or}
+use Rattle.std.specs.Option.{option_map_or}
 use Rattle.std.proofs.lemmas.Bool.{and_parts, eqb-true}
+use Rattle.std.proofs.lemmas.Grind.{common_steps}
 use Rattle.leaf_journal.specs.Records.{binding_record, marker, messages_of, may_follow_of, MayBind}
 use Rattle.leaf_journal.proofs.Binding.{binding_follows, binding-messages}
 use Rattle.plasma_tx.specs.declared.owner.Owner.{Owner}
@@ -26,7 +27,7 @@ use Rattle.node_rules.specs.declared.answers.Reclaimed.{Reclaimed}
 use Rattle.node_rules.specs.Kept.{chain_of, kept_of, links_handed}
 use Rattle.node_rules.specs.Laws.{IsReadBack}
 use Rattle.node_rules.specs.Watcher.{is_of}
-use Rattle.node_rules.specs.WalletRecords.{Accepts, LeavesWith, Reclaims, note_text, note_in, notes_of, accepted_of, is_body, leaves_in, is_bound_note}
+use Rattle.node_rules.specs.WalletRecords.{Accepts, LeavesWith, Reclaims, note_text, note_in, is_body, leaves_in, is_bound_note}
 use Rattle.node_rules.specs.Wallet.{WalletRecords, who, noted, coin_state, kept_at, links_at, accept_effect, send_effect, leave_effect, reclaim_effect, reclaim_by, migrate_effect}
 use Rattle.node_rules.specs.WalletOpening.{leaves_of, is_wallet}
 use Rattle.node_rules.specs.WalletCommandLaws.{with_more, FitWords, AcceptsKeepTheRole, SendsKeepTheRole, LeavesKeepTheRole, ReclaimsKeepTheRole, MigrationsKeepTheRole, AddsAccepted, AcceptsAddTheirNotes, sent_body, BindsBody, AddsSent, SendsAddTheirLeaves, AddsLeaving, LeavesAddTheirNotes, AddsReclaimed, ReclaimsAddTheirNotes, AddsMarker, MigrationsAddTheMarker, LeavesAreAnswered}
@@ -46,18 +47,14 @@ module _ (dig : List ℕ → List ℕ) (wallet : WalletRecords) (is : is_wallet 
       → ((body : List ℕ) → note ≡ Some body
       → is_wallet dig (record wallet { notes = wallet.notes ++ body ∷ [] }) ≡ true)
       → is_wallet dig (record { notes = with_more note wallet.notes; leaves = with_more leaf wallet.leaves }) ≡ true
-  after-note None None none each = is
-  after-note (Some body) None none each = each body refl
-  after-note some (Some leaf) wrong each = absurd (cc wrong)
+  after-note some leaf none each = grind (arith, common_steps) steps 20000
 
   -- that added a leaf's record at most
   after-leaf : (note leaf : Option (List ℕ)) → note ≡ None
       → ((body : List ℕ) → leaf ≡ Some body
       → is_wallet dig (record wallet { leaves = wallet.leaves ++ body ∷ [] }) ≡ true)
       → is_wallet dig (record { notes = with_more note wallet.notes; leaves = with_more leaf wallet.leaves }) ≡ true
-  after-leaf None None none each = is
-  after-leaf None (Some leaf) none each = each leaf refl
-  after-leaf (Some note) leaf wrong each = absurd (cc wrong)
+  after-leaf note leaf none each = grind (arith, common_steps) steps 20000
 
 -- ---- accept
 
@@ -219,8 +216,7 @@ leaves_add_their_notes dig wallet log coin is words coin_fits =
       left.0,
       left.1,
       note-adds dig wallet.notes (wallet-parts dig wallet is).role body (LeavesWith coin left.0)
-          (ap (note_in dig (who wallet).tag) (sym left.2)
-          ∙ note_in-text dig (who wallet).tag (LeavesWith coin left.0) (coin_fits, tip_fits)),
+          (grind (arith, common_steps, note_in-text) steps 20000),
     ))
 
 -- ---- reclaim
@@ -270,14 +266,10 @@ module _ (dig : List ℕ → List ℕ) (wallet : WalletRecords) (log : List Root
           is in
           record {
             taken = record { coin = bundle.coin; tip = known.tip; q = known.q };
-            answered = ap (λ (r : Result Bundle HistoryRefusal). (reclaim_by dig wallet log r).answer) reads
-                ∙ known.answered;
+            answered = grind (arith, common_steps) steps 20000;
             sending = known.sending;
-            reads = ap (note_in dig (who wallet).tag) (sym known.text)
-                ∙ note_in-text dig (who wallet).tag (Reclaims bundle.coin known.tip known.q)
-                (coin_fits, tip_fits, q_fits);
-            binds = may-reclaim bundle.coin known.tip known.last _
-                (slice_get (leaves_in wallet.leaves) known.q) at_tip.1 known.has_last;
+            reads = grind (arith, common_steps, note_in-text) steps 20000;
+            binds = grind (arith, common_steps, may-reclaim) steps 20000;
           }
 
 pub reclaims_keep_the_role : ReclaimsKeepTheRole
@@ -296,8 +288,7 @@ reclaims_add_their_notes dig wallet log bytes is small words =
       known.taken,
       known.answered,
       known.sending,
-      note-adds dig wallet.notes (wallet-parts dig wallet is).role body
-          (Reclaims known.taken.coin known.taken.tip known.taken.q) known.reads,
+      grind (arith, common_steps, note-adds, wallet-parts) steps 20000,
     ))
 
 -- ---- migrate
@@ -316,11 +307,7 @@ pub migrations_add_the_marker : MigrationsAddTheMarker
 migrations_add_the_marker wallet =
     if_some-each (migrate_effect wallet).leaf (AddsMarker wallet)
     (λ leaf added.
-    let known = migrate-leaf wallet leaf added in (
-      known.1,
-      known.0,
-      ap (λ (l : List ℕ). leaves_in (wallet.leaves ++ l ∷ [])) known.1 ∙ leaves-marked wallet.leaves known.0,
-    ))
+    let known = migrate-leaf wallet leaf added in grind (arith, common_steps, leaves-marked) steps 20000)
 
 -- ---- exits
 
@@ -328,14 +315,7 @@ migrations_add_the_marker wallet =
 kept-coin : (coin tip : ℕ) (kept : List Bundle)
     → (unwrap_or (find (is_of coin tip) kept) (record { coin = coin; tip = tip; openings = [] })).coin ≡ coin
 kept-coin coin tip [] = refl
-kept-coin coin tip (one ∷ kept) = at (kept-coin coin tip kept) (is_of coin tip one) refl
-  where
-    at : (unwrap_or (find (is_of coin tip) kept) (record { coin = coin; tip = tip; openings = [] })).coin ≡ coin
-        → (b : Bool) → is_of coin tip one ≡ b
-        → (unwrap_or (if b then Some one else find (is_of coin tip) kept)
-        (record { coin = coin; tip = tip; openings = [] })).coin ≡ coin
-    at rest true is = eqb-true one.coin coin (and_parts (one.coin == coin) (one.tip == tip) is).0
-    at rest false isnt = rest
+kept-coin coin tip (one ∷ kept) = grind (arith, common_steps, kept-coin coin tip kept, eqb-true, and_parts) steps 20000
 
 -- a coin of the log has links
 pub links-some : (dig : List ℕ → List ℕ) (wallet : WalletRecords) (log : List RootCall) (coin tip : ℕ)
@@ -347,8 +327,7 @@ links-some dig wallet log coin tip exists = at (coin_at log coin) refl
     at None none = absurd (exists none)
     at (Some made) some = (
       links_of (chain_of (who wallet).tag) made (kept_at dig wallet coin tip),
-      ap (option_map (λ m. links_of (chain_of (who wallet).tag) m (kept_at dig wallet coin tip)))
-          (ap (coin_at log) (kept-coin coin tip (accepted_of (notes_of dig wallet.notes))) ∙ some),
+      grind (arith, common_steps, kept-coin) steps 20000,
     )
 
 pub leaving-tip : (dig : List ℕ → List ℕ) (wallet : WalletRecords) (log : List RootCall) (coin tip : ℕ)

@@ -4,6 +4,7 @@ use Rattle.std.specs.List.{slice_range}
 use Rattle.std.proofs.lemmas.Bool.{cases_Bool, and_parts, and_from, or_cases, eqb-true, eq-eqb}
 use Rattle.std.proofs.lemmas.List.{length-append, take_all, take-append-drop, length-drop, drop_at}
 use Rattle.std.proofs.lemmas.List.Elements.{All-tail, All-drop}
+use Rattle.std.proofs.lemmas.Grind.{common_steps}
 use Rattle.lms_sign.specs.declared.types.LmsTypes.{LmsTypes}
 use Rattle.lms_sign.specs.Types.{is_supported}
 use Rattle.plasma_tx.specs.declared.links.Links.{Links}
@@ -24,36 +25,20 @@ use Rattle.node_rules.proofs.KeptTexts.{kept_in-text, kept_in-spelled, handed-ba
 
 -- the types of the first form
 first-types : (types : LmsTypes) → is_first types ≡ true → record { lms = 5; ots = 4 } ≡ types
-first-types types is =
-    let parts = and_parts (types.lms == 5) (types.ots == 4) is in
-    λ i. record { lms = sym (eqb-true types.lms 5 parts.0) i; ots = sym (eqb-true types.ots 4 parts.1) i }
+first-types types is = grind (arith, common_steps, and_parts, eqb-true) steps 20000
 
 short-of : (n one other : ℕ) → one < 2 ^ 32 → other < 2 ^ 32 → ((n == one) || (n == other)) ≡ true → n < 2 ^ 32
-short-of n one other one_fits other_fits is = elim (or_cases (n == one) (n == other) is) [
-  | inl same ↦ subst (λ (m : ℕ). m < 2 ^ 32) (sym (eqb-true n one same)) one_fits
-  | inr same ↦ subst (λ (m : ℕ). m < 2 ^ 32) (sym (eqb-true n other same)) other_fits
-]
+short-of n one other one_fits other_fits is = grind (arith, common_steps, or_cases, eqb-true) steps 20000
 
 -- the numbers of types that keys may have are short
 short-types : (types : LmsTypes) → is_supported types ≡ true → (types.lms < 2 ^ 32) × (types.ots < 2 ^ 32)
-short-types types is =
-    let parts = and_parts ((types.lms == 5) || (types.lms == 6)) ((types.ots == 3) || (types.ots == 4)) is in (
-      short-of types.lms 5 6 (omega arith) (omega arith) parts.0,
-      short-of types.ots 3 4 (omega arith) (omega arith) parts.1,
-    )
+short-types types is = grind (arith, common_steps, and_parts, short-of) steps 20000
 
 -- ---- the identity that its bytes spell
 
 module _ (who : WalletIdentity) (h : IsIdentity who) where
   common-long : length (common_text who) ≡ 72
-  common-long =
-      let tag_long = h.tag in
-      let seed_long = h.seed in
-      omega (
-        arith,
-        length-append who.tag (number_text who.account),
-        length-append (who.tag ++ number_text who.account) who.seed,
-      )
+  common-long = grind (arith, common_steps, length-append) steps 20000
 
   -- the fields behind the types
   fields-read : identity_of who.types (common_text who) ≡ who
@@ -75,16 +60,7 @@ module _ (who : WalletIdentity) (h : IsIdentity who) where
   types-read : types_in (numbers ++ common_text who) ≡ who.types
   types-read =
       let short = short-types who.types h.types in
-      let lms : short_at (numbers ++ common_text who) 0 ≡ who.types.lms =
-      short-in (numbers ++ common_text who) 0 who.types.lms short.0
-      (range-front numbers (common_text who) 0 4 (omega arith) (omega arith)
-      ∙ range-front (short_text who.types.lms) (short_text who.types.ots) 0 4 (omega arith) (omega arith)
-      ∙ take_all 4 (short_text who.types.lms) (omega arith)) in
-      let ots : short_at (numbers ++ common_text who) 4 ≡ who.types.ots =
-      short-in (numbers ++ common_text who) 4 who.types.ots short.1
-      (range-front numbers (common_text who) 4 8 (omega arith) (omega arith)
-      ∙ range-back (short_text who.types.lms) (short_text who.types.ots) 4 8 refl refl) in
-      λ i. record { lms = lms i; ots = ots i }
+      grind (arith, common_steps, short-in, range-front, take_all, range-back) steps 20000
 
 first-known : (bytes : List ℕ) → length bytes ≡ 72
     → identity_in (1 ∷ bytes) ≡ Some (identity_of (record { lms = 5; ots = 4 }) bytes)
@@ -113,8 +89,7 @@ identity_in-text who h = at (is_first who.types) refl
         let long = common-long who h in
         let types = types-read who h in
         second-known (front ++ common_text who) (omega (arith, length-append front (common_text who)))
-        (ap may_be_second types
-        ∙ and_from (is_supported who.types) (not (is_first who.types)) h.types (ap (λ (b : Bool). not b) isnt))
+        (grind (arith, common_steps, and_from) steps 20000)
         ∙ (λ i. Some (identity_of (types i) (drop_at front (common_text who) 8 refl i)))
         ∙ ap (λ (w : WalletIdentity). Some w) (fields-read who h)
 
@@ -216,15 +191,10 @@ pub leaves-some : (dig : List ℕ → List ℕ) (tag : List ℕ) (coin tip : ℕ
     ≡ Some (LeavesWith (number_at (number_text coin ++ number_text tip) 0)
     (number_at (number_text coin ++ number_text tip) 8))
 unfolding note_text
-leaves-some dig tag coin tip =
-    leaves-read dig tag (number_text coin ++ number_text tip)
-    (omega (arith, length-append (number_text coin) (number_text tip)))
+leaves-some dig tag coin tip = grind (arith, common_steps, leaves-read, length-append) steps 20000
 
 short-read : (coin tip q : ℕ) → q < 2 ^ 32 → short_at (number_text coin ++ number_text tip ++ short_text q) 16 ≡ q
-short-read coin tip q small =
-    short-in (number_text coin ++ number_text tip ++ short_text q) 16 q small
-    (range-back (number_text coin ++ number_text tip) (short_text q) 16 20
-    (omega (arith, length-append (number_text coin) (number_text tip))) refl)
+short-read coin tip q small = grind (arith, common_steps, short-in, range-back, length-append) steps 20000
 
 pub note_in-text : NotesAreReadBack
 unfolding note_text
@@ -235,11 +205,7 @@ note_in-text dig tag (LeavesWith coin tip) h =
     ∙ (λ i. Some (LeavesWith (pair-first coin tip h.0 i) (pair-second coin tip h.1 i)))
 note_in-text dig tag (Reclaims coin tip q) h =
     reclaims-read dig tag (number_text coin ++ number_text tip ++ short_text q)
-    (omega (
-      arith,
-      length-append (number_text coin) (number_text tip),
-      length-append (number_text coin ++ number_text tip) (short_text q),
-    ))
+    (grind (arith, common_steps, length-append) steps 20000)
     ∙ (λ i. Some (Reclaims (first-read coin tip (short_text q) h.0 i) (second-read coin tip (short_text q) h.1 i)
     (short-read coin tip q h.2 i)))
 

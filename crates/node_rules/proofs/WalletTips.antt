@@ -1,22 +1,21 @@
 -- The tag, the tips and the leaves of a wallet have their sizes.
-use Rattle.std.proofs.Common.{◌≡◌, ℕ, ◌^◌, ◌<◌, ◌≤◌, ◌==◌, ◌&&◌, Bool, true, false, if◌then◌else◌, List, [], ◌∷◌, ◌++◌, length, drop, filter, Option, Some, None, is_some, refl, ap, ◌∙◌, subst, inl, inr, arith}
+use Rattle.std.proofs.Common.{◌≡◌, ℕ, ◌^◌, ◌<◌, ◌≤◌, ◌==◌, ◌&&◌, Bool, true, false, if◌then◌else◌, List, [], ◌∷◌, ◌++◌, length, drop, filter, Option, Some, None, refl, subst, inl, inr, arith}
 use Rattle.std.specs.Prelude.{slice_get}
 use Rattle.std.specs.List.{All, filter_map}
-use Rattle.std.specs.Option.{option_map_or}
 use Rattle.std.proofs.lemmas.Bool.{cases_Bool, and_parts, eqb-true, false≢true}
 use Rattle.std.proofs.lemmas.List.{length-map, length-drop}
-use Rattle.std.proofs.lemmas.List.Elements.{All-nil, All-cons, All-head, All-tail, All-append, All-push, All-drop, All-filter, All-map, All-contains}
+use Rattle.std.proofs.lemmas.List.Elements.{All-nil, All-head, All-tail, All-append, All-push, All-drop, All-filter, All-map, All-contains}
 use Rattle.std.proofs.lemmas.Option.{slice_get_within}
+use Rattle.std.proofs.lemmas.Grind.{common_steps}
 use Rattle.node_journal.specs.Role.{are_of}
 use Rattle.lms_sign.specs.declared.types.LmsTypes.{LmsTypes}
 use Rattle.lms_sign.specs.Types.{height, leaf_count}
-use Rattle.leaf_journal.specs.Records.{messages_of}
 use Rattle.leaf_journal.proofs.Form.{are_few}
 use Rattle.leaf_journal.proofs.KindRecords.{form_of}
 use Rattle.plasma_tx.specs.declared.owner.Owner.{Owner}
 use Rattle.plasma_tx.specs.declared.call.RootCall.{RootCall}
 use Rattle.plasma_tx.specs.declared.views.CoinView.{CoinView}
-use Rattle.plasma_tx.specs.Spelling.{AreBytes, body_at_start}
+use Rattle.plasma_tx.specs.Spelling.{AreBytes}
 use Rattle.plasma_tx.specs.Views.{blocks, coin_at}
 use Rattle.plasma_tx.proofs.Names.{some_same}
 use Rattle.plasma_tx.proofs.Parts.{length-range}
@@ -27,9 +26,9 @@ use Rattle.wallet_core.specs.declared.notes.Notes.{Notes}
 use Rattle.wallet_core.specs.State.{is_owner, own_deposit, noted_tips}
 use Rattle.wallet_core.specs.Laws.{IsTip}
 use Rattle.node_rules.specs.declared.identity.WalletIdentity.{WalletIdentity}
-use Rattle.node_rules.specs.WalletRecords.{identity_of, types_in, may_be_second, identity_in, Note, Accepts, LeavesWith, Reclaims, note_in, wallet_kinds, no_one, who_is, notes_of, coin_tip, state_notes, owner_of, leaves_in, is_body}
+use Rattle.node_rules.specs.WalletRecords.{identity_of, types_in, may_be_second, identity_in, Note, Accepts, LeavesWith, Reclaims, note_in, wallet_kinds, who_is, notes_of, coin_tip, state_notes, owner_of, leaves_in}
 use Rattle.node_rules.specs.Wallet.{WalletRecords, who, noted}
-use Rattle.node_rules.specs.WalletOpening.{leaves_of, is_wallet}
+use Rattle.node_rules.specs.WalletOpening.{is_wallet}
 use Rattle.node_rules.specs.WalletLaws.{IsNote}
 use Rattle.node_rules.specs.WalletCommandLaws.{FitWords}
 use Rattle.node_rules.proofs.OneMore.{All-reverse, All-filter_map}
@@ -65,15 +64,7 @@ tag-of (mark ∷ bytes) who h =
 pub tag-long : (dig : List ℕ → List ℕ) (records : List (List ℕ)) → are_of (wallet_kinds dig) records ≡ true
     → length (who_is records).tag ≡ 32
 unfolding who_is
-tag-long dig [] role = absurd (false≢true role)
-tag-long dig (identity ∷ notes) role = at (identity_in identity) refl
-    (and_parts (is_some (identity_in identity)) _ role).0
-  where
-    at : (found : Option WalletIdentity) → identity_in identity ≡ found → is_some found ≡ true
-        → length (option_map_or (λ who. who) (identity_in identity) no_one).tag ≡ 32
-    at None none wrong = absurd (false≢true wrong)
-    at (Some who) is right =
-        ap (λ (o : Option WalletIdentity). length (option_map_or (λ w. w) o no_one).tag) is ∙ tag-of identity who is
+tag-long dig records role = grind (arith, common_steps, false≢true, and_parts, tag-of) steps 20000
 
 -- ---- notes
 
@@ -109,8 +100,7 @@ own-fit me log coin fits = at (coin_at log coin) refl
     at None none = All-nil (λ n. n < 2 ^ 64)
     at (Some made) some = elim (is_owner made.owner me) as (λ b.
         All (λ n. n < 2 ^ 64) (if b then made.deposit ∷ [] else [])) [
-          | true ↦ All-cons (λ n. n < 2 ^ 64) made.deposit []
-              (omega (arith, fits, deposit-le log coin made some)) (All-nil (λ n. n < 2 ^ 64))
+          | true ↦ grind (arith, common_steps, deposit-le) steps 20000
           | false ↦ All-nil (λ n. n < 2 ^ 64)
         ]
 
@@ -132,20 +122,11 @@ tip-fits dig wallet log coin tip words is =
 
 few-leaves : (types : LmsTypes) → leaf_count types ≤ 2 ^ 10
 unfolding height
-few-leaves types = elim (types.lms == 6) as (λ b. 2 ^ (if b then 10 else 5) ≤ 2 ^ 10) [
-  | true ↦ omega arith
-  | false ↦ omega arith
-]
+few-leaves types = grind (arith, common_steps) steps 20000
 
 -- the number of a bound leaf has 32 bits
 pub leaf-fits : (dig : List ℕ → List ℕ) (wallet : WalletRecords) (q : ℕ) (leaf : LeafRecord)
     → is_wallet dig wallet ≡ true → slice_get (leaves_in wallet.leaves) q ≡ Some leaf → q < 2 ^ 32
 leaf-fits dig wallet q leaf is at =
     let are = wallet-parts dig wallet is in
-    let form = form_of is_body (leaves_of wallet.notes) wallet.leaves wallet.leaves are.leaves in
-    let few = (are_few (leaves_of wallet.notes) wallet.leaves wallet.leaves form).within in
-    let least = few-leaves (who wallet).types in
-    let within = slice_get_within (leaves_in wallet.leaves) q leaf at in
-    let read : List ℕ → LeafRecord = λ message. record { body = body_at_start message } in
-    let counted = length-map (messages_of wallet.leaves) read in
-    omega (arith, few, least, within, counted)
+    grind (arith, common_steps, form_of, are_few, few-leaves, slice_get_within, length-map) steps 20000

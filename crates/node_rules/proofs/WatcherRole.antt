@@ -1,15 +1,14 @@
 -- What a watcher's command adds to its records, and how they are read then.
-use Rattle.std.proofs.Common.{◌≡◌, ℕ, Bool, true, false, if◌then◌else◌, List, [], ◌∷◌, ◌++◌, Option, Some, None, is_some, Ok, Err, refl, sym, ap, ◌∙◌}
-use Rattle.std.specs.Prelude.{Result, reverse}
-use Rattle.std.specs.List.{filter_map, flat_map, cons_option, list_any}
-use Rattle.std.specs.Option.{option_map, option_map_or}
+use Rattle.std.proofs.Common.{◌≡◌, ℕ, Bool, true, false, if◌then◌else◌, List, [], ◌∷◌, ◌++◌, Option, Some, None, Ok, Err, refl, sym, ap, ◌∙◌, arith}
+use Rattle.std.specs.Prelude.{Result}
+use Rattle.std.specs.List.{flat_map, cons_option, list_any}
 use Rattle.std.proofs.lemmas.Bool.{false≢true}
-use Rattle.node_journal.specs.Effect.{Effect, first_cause, unless, only}
+use Rattle.std.proofs.lemmas.Grind.{common_steps}
+use Rattle.node_journal.specs.Effect.{Effect, unless, only}
 use Rattle.node_journal.specs.Role.{are_of, may_follow}
 use Rattle.node_journal.proofs.Roles.{notes_follow}
 use Rattle.plasma_tx.specs.declared.links.Links.{Links}
 use Rattle.plasma_tx.specs.declared.call.RootCall.{RootCall}
-use Rattle.plasma_tx.specs.Links.{tip_of}
 use Rattle.plasma_tx.specs.Spelling.{AreBytes, number_text, number_at}
 use Rattle.plasma_tx.proofs.Names.{some_same}
 use Rattle.coin_history.specs.declared.bundle.Bundle.{Bundle}
@@ -18,9 +17,9 @@ use Rattle.watch_duty.specs.Duty.{due_of, due_calls}
 use Rattle.node_rules.specs.declared.answers.Accepted.{Accepted}
 use Rattle.node_rules.specs.declared.refusal.WatcherRefusal.{WatcherRefusal}
 use Rattle.node_rules.specs.declared.refusal.WatcherRefusal.TheVariants.{NoGuard}
-use Rattle.node_rules.specs.Kept.{kept_of, kept_links, links_handed}
+use Rattle.node_rules.specs.Kept.{kept_of, links_handed}
 use Rattle.node_rules.specs.Laws.{IsReadBack}
-use Rattle.node_rules.specs.Watcher.{WatcherIdentity, nobody, identity_in, Note, Guarded, Released, note_text, note_in, tag_in, watcher_kinds, who_is, notes_of, is_of, guards_in, guard_causes, guard_taken, guard_by, guard_effect, release_effect, due_for_kept, watch_answer}
+use Rattle.node_rules.specs.Watcher.{Note, Guarded, Released, note_text, note_in, tag_in, watcher_kinds, who_is, notes_of, is_of, guards_in, guard_by, guard_effect, release_effect, due_for_kept, watch_answer}
 use Rattle.node_rules.specs.WatcherLaws.{KeepsRole, CommandsKeepTheRole, AddsNote, AddsGuard, CommandsAddTheirNotes, guards_shown, WatchersDoTheirDuty}
 use Rattle.node_rules.proofs.KeptTexts.{handed-back}
 use Rattle.node_rules.proofs.OneMore.{if_some-each, reverse-grow}
@@ -31,12 +30,7 @@ use Rattle.node_rules.proofs.WatcherTexts.{note_in-text, released-some}
 -- records begin with the identity that has their tag
 pub tag-same : (identity : List ℕ) (notes : List (List ℕ)) → (who_is (identity ∷ notes)).tag ≡ tag_in identity
 unfolding who_is
-tag-same identity notes =
-    elim (identity_in identity) as (λ o. (option_map_or (λ who. who) o nobody).tag
-    ≡ option_map_or (λ (who : WatcherIdentity). who.tag) o []) [
-      | None ↦ refl
-      | Some who ↦ refl
-    ]
+tag-same identity notes = grind (arith, common_steps) steps 20000
 
 -- it is the same behind each of them
 pub who-same : (identity : List ℕ) (notes more : List (List ℕ))
@@ -49,34 +43,21 @@ pub notes-grow : (dig : List ℕ → List ℕ) (identity : List ℕ) (notes : Li
     → notes_of dig ((identity ∷ notes) ++ body ∷ [])
     ≡ cons_option (note_in dig (who_is (identity ∷ notes)).tag body) (notes_of dig (identity ∷ notes))
 unfolding notes_of
-notes-grow dig identity notes body =
-    ap (λ (who : WatcherIdentity). reverse (filter_map (note_in dig who.tag) (notes ++ body ∷ [])))
-    (who-same identity notes (body ∷ []))
-    ∙ reverse-grow (note_in dig (who_is (identity ∷ notes)).tag) notes body
+notes-grow dig identity notes body = grind (arith, common_steps, who-same, reverse-grow) steps 20000
 
 -- a record that spells a note may stand behind an identity, and is read as it
 module _ (dig : List ℕ → List ℕ) (records : List (List ℕ)) (role : are_of (watcher_kinds dig) records ≡ true)
     (body : List ℕ) (note : Note) (is : note_in dig (who_is records).tag body ≡ Some note) where
   follows-at : (all : List (List ℕ)) → are_of (watcher_kinds dig) all ≡ true
       → note_in dig (who_is all).tag body ≡ Some note → may_follow (watcher_kinds dig) all body ≡ true
-  follows-at [] wrong spells = absurd (false≢true wrong)
-  follows-at (identity ∷ notes) right spells =
-      ap (λ (t : List ℕ). is_some (note_in dig t body)) (sym (tag-same identity notes))
-      ∙ ap (λ (o : Option Note). is_some o) spells
+  follows-at all wrong spells = grind (arith, common_steps, false≢true, tag-same) steps 20000
 
   pub note-keeps : KeepsRole dig records body
-  note-keeps =
-      let may = follows-at records role is in
-      (may, notes_follow (watcher_kinds dig) records body role may)
+  note-keeps = grind (arith, common_steps, follows-at, notes_follow) steps 20000
 
   adds-at : (all : List (List ℕ)) → are_of (watcher_kinds dig) all ≡ true
       → note_in dig (who_is all).tag body ≡ Some note → AddsNote dig all note body
-  adds-at [] wrong spells = absurd (false≢true wrong)
-  adds-at (identity ∷ notes) right spells = (
-    who-same identity notes (body ∷ []),
-    notes-grow dig identity notes body
-        ∙ ap (λ (o : Option Note). cons_option o (notes_of dig (identity ∷ notes))) spells,
-  )
+  adds-at all wrong spells = grind (arith, common_steps, false≢true, who-same, notes-grow) steps 20000
 
   pub note-adds : AddsNote dig records note body
   note-adds = adds-at records role is
@@ -95,13 +76,7 @@ taken false text body is = some_same text body is
 guard-note : (log : List RootCall) (guards : List Bundle) (handed : Result Links HistoryRefusal) (body : List ℕ)
     → (guard_by log guards handed).note ≡ Some body
     → (links : Links) × (handed ≡ Ok links) × (note_text (Guarded (kept_of links)) ≡ body)
-guard-note log guards (Err why) body is = absurd (cc is)
-guard-note log guards (Ok links) body is = (
-  links,
-  refl,
-  taken (list_any (is_of links.coin (tip_of links)) guards) (note_text (Guarded (kept_of links))) body
-      (noted (first_cause (guard_causes log links)) (guard_taken guards links) body is),
-)
+guard-note log guards handed body is = grind (arith, common_steps, taken, noted) steps 20000
 
 -- the record of a guard is that of the links that were handed in
 pub guard-adds : (dig : List ℕ → List ℕ) (records : List (List ℕ)) (log : List RootCall) (bytes body : List ℕ)
@@ -170,16 +145,7 @@ due-shown : (tag : List ℕ) (log : List RootCall) (account : ℕ) (kept : List 
     → flat_map (due_for_kept tag log account) kept
     ≡ flat_map (due_of log account) (guards_shown tag log kept)
 due-shown tag log account [] = refl
-due-shown tag log account (one ∷ kept) =
-    let rest = due-shown tag log account kept in
-    elim (kept_links tag log one) as (λ o.
-    option_map_or (λ links. due_of log account (record { links = links })) o []
-    ++ flat_map (due_for_kept tag log account) kept
-    ≡ flat_map (due_of log account)
-    (cons_option (option_map (λ links. record { links = links }) o) (guards_shown tag log kept))) [
-      | None ↦ rest
-      | Some links ↦ ap (λ (calls : List RootCall). due_of log account (record { links = links }) ++ calls) rest
-    ]
+due-shown tag log account (one ∷ kept) = grind (arith, common_steps, due-shown tag log account kept) steps 20000
 
 pub watchers_do_their_duty : WatchersDoTheirDuty
 unfolding watch_answer due_calls

@@ -4,6 +4,7 @@ use Rattle.std.specs.List.{slice_range}
 use Rattle.std.proofs.lemmas.Bool.{cases_Bool, and_parts, eqb-true, eq-eqb}
 use Rattle.std.proofs.lemmas.List.{length-append, take_all}
 use Rattle.std.proofs.lemmas.List.Elements.{All-tail}
+use Rattle.std.proofs.lemmas.Grind.{common_steps}
 use Rattle.plasma_tx.specs.declared.links.Links.{Links}
 use Rattle.plasma_tx.specs.declared.call.RootCall.{RootCall}
 use Rattle.plasma_tx.specs.Spelling.{AreBytes, number_text, number_at}
@@ -34,8 +35,7 @@ identity_in-text who h =
     ap (λ (l : List ℕ). slice_range l 0 32) (sym none) ∙ tag-read who.tag who.account [] h.tag in
     let account_is : number_at bytes 32 ≡ who.account =
     ap (λ (l : List ℕ). number_at l 32) (sym none) ∙ account-read who.tag who.account [] h.tag h.account in
-    identity-known bytes (omega (arith, length-append who.tag (number_text who.account)))
-    ∙ (λ i. Some (record { tag = tag_is i; account = account_is i }))
+    grind (arith, common_steps, identity-known, length-append) steps 20000
 
 identity-text : (bytes : List ℕ) → AreBytes bytes → length bytes ≡ 40
     → (17 ∷ bytes ≡ identity_text (record { tag = slice_range bytes 0 32; account = number_at bytes 32 }))
@@ -82,9 +82,7 @@ pub released-some : (dig : List ℕ → List ℕ) (tag : List ℕ) (coin tip : �
     ≡ Some (Released (number_at (number_text coin ++ number_text tip) 0)
     (number_at (number_text coin ++ number_text tip) 8))
 unfolding note_text
-released-some dig tag coin tip =
-    released-read dig tag (number_text coin ++ number_text tip)
-    (omega (arith, length-append (number_text coin) (number_text tip)))
+released-some dig tag coin tip = grind (arith, common_steps, released-read, length-append) steps 20000
 
 pub note_in-text : NotesAreReadBack
 unfolding note_text
