@@ -68,7 +68,8 @@ module _ (dig : List ℕ → List ℕ) (digest : IsDigest dig) (rules : Rules) (
               (ap (λ b. is_none (challenge_at b o.y.challenges)) look.tip_is ∙ none))) [
                 | inl found ↦ due-met free apart found.0
                     (due_for-due (log_of events) account kept.links (exit_view o.y) found.0 found.1)
-                    (has-in-flat_map (due_for (log_of events) account kept.links) (exits_of (log_of events) kept.links.coin)
+                    (has-in-flat_map (due_for (log_of events) account kept.links) (exits_of (log_of events)
+                    kept.links.coin)
                     (exit_view o.y) found.0 (standing-has (log_of events) kept o.y o.there own) found.1)
                 | inr challenged ↦ true≢false (sym free ∙ o.challenged e challenged)
               ]

@@ -93,7 +93,8 @@ module _ (tests : Tests) (rules : Rules) (events : List Event) (c : ℕ) (made :
   unfolding exits_of
   due-offered call h =
       g.due call
-      (has-in-flat_map (due_for (log_of events) g.account g.links) (exits_of (log_of events) g.links.coin) (exit_view x) call
+      (has-in-flat_map (due_for (log_of events) g.account g.links) (exits_of (log_of events) g.links.coin) (exit_view x)
+      call
       (has-mapped exit_view (filter (λ exit. exit.coin == g.links.coin) (exits (log_of events))) x
       (has-kept (λ (exit : Exit). exit.coin == g.links.coin) (exits (log_of events)) x there
       (eq-eqb x.coin g.links.coin (c_is ∙ sym g.good.coin_is)))) h)

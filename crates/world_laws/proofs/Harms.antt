@@ -104,7 +104,8 @@ module _ (tests : Tests) (rules : Rules) (signs : SignsBy tests) (events : List 
           absurd (omega (arith, order, p.3, parent, is.later))
 
   -- an accepted call
-  pub call-harmless : FinishesHarmNothing events c e at.hold.me → (call : RootCall) → ((o : RawOpening) → Has (openings_of_call c call) o → Has more o)
+  pub call-harmless : FinishesHarmNothing events c e at.hold.me → (call : RootCall)
+      → ((o : RawOpening) → Has (openings_of_call c call) o → Has more o)
       → forges_one rules.tag (wallet_owner events w) (bound_by events w) c (openings_of_call c call) ≡ false
       → call_harms tests rules (log_of events) at.hold.me c e call ≡ false
   unfolding call_harms answer_to
@@ -123,7 +124,8 @@ module _ (tests : Tests) (rules : Rules) (signs : SignsBy tests) (events : List 
   call-harmless finish call has none = refl
 
   -- a refused call
-  pub refused-harmless : FinishesHarmNothing events c e at.hold.me → (call : RootCall) → is_accepted (answer_to tests rules (log_of events) call) ≡ false
+  pub refused-harmless : FinishesHarmNothing events c e at.hold.me → (call : RootCall)
+      → is_accepted (answer_to tests rules (log_of events) call) ≡ false
       → call_harms tests rules (log_of events) at.hold.me c e call ≡ false
   unfolding call_harms answer_to
   refused-harmless finish call off = grind (arith, common_steps, four-false, true≢false, and-off, finish, eqb-true)

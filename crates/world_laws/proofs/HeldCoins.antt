@@ -1,4 +1,4 @@
--- What the files above know of a coin that a wallet holds: how its histories walk, what shows it, and whose leaves bind it.
+-- What the files above know of a coin that a wallet holds: how its histories walk, what shows it, whose leaves bind it.
 pub use Rattle.world_laws.proofs.Bound.{holding, Holding, is_noted, owner-is, IsKept, is_kept, kept-grow, SignsBy, owner-stays, owners_apart, owner-some, bound_since, unspent, line_bound}
 unfoldable pub use Rattle.world_laws.proofs.Bound.{IsSince}
 pub use Rattle.world_laws.proofs.Clash.{one_leaf, HasOneLeaf, clash-from, IsOpened}

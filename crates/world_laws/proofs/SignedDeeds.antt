@@ -78,7 +78,8 @@ module _ (dig : List ℕ → List ℕ) (events : List Event) (world : World) (ke
             record {
               body = body;
               leaf = sent-made body (sign (used wallet)) (sent-is dig (said events n) log wallet wallet-kept
-                  (few-blocks dig events world kept) coin to last coin_fits good.is good.key last_fits tip held) q number;
+                  (few-blocks dig events world kept) coin to last coin_fits good.is good.key last_fits tip held) q
+                  number;
               made_is = ap (λ (k : ℕ). body_text body ++ sign k) number;
             })
 

@@ -170,7 +170,8 @@ module _ (dig : List ℕ → List ℕ) (events : List Event) (world : World) (ke
               old,
               role,
               ap (λ (w : WalletIdentity). (owner_of w).key)
-                  (who-recorded dig events world kept place.number place.node (deed_at dig world place order).note old role),
+                  (who-recorded dig events world kept place.number place.node (deed_at dig world place order).note old
+                  role),
             ),
           )
 
