@@ -3,6 +3,7 @@ use Rattle.std.proofs.Common.{◌≡◌, ℕ, ◌^◌, ◌<◌, true, false, Lis
 use Rattle.std.specs.Prelude.{nat_lt, ◌≤◌}
 use Rattle.std.proofs.lemmas.Bool.{le-ltb, lt-ltb}
 use Rattle.std.proofs.lemmas.List.Elements.{All-push}
+use Rattle.std.proofs.lemmas.Grind.{common_steps}
 use Rattle.node_journal.specs.Effect.{only}
 use Rattle.gate_journal.specs.Image.{most}
 use Rattle.node_journal.specs.Role.{are_of}
@@ -11,13 +12,11 @@ use Rattle.plasma_tx.specs.Spelling.{number_text}
 use Rattle.operator_rules.specs.declared.TheConstants.{MOST_LAID}
 use Rattle.operator_rules.specs.declared.refusal.LayRefusal.TheVariants.{LeafTooLong}
 use Rattle.operator_rules.specs.Records.{Note, Offered, Laid, Sealed, note_text, operator_kinds, notes_of}
-use Rattle.operator_rules.specs.Trees.{Forest, coin_named, forest_of}
+use Rattle.operator_rules.specs.Trees.{coin_named, forest_of}
 use Rattle.operator_rules.specs.Commands.{forest_in, offer_effect, lay_effect, seal_effect}
 use Rattle.operator_rules.proofs.Role.{commands_keep_the_role, commands_add_their_notes}
-use Rattle.sparse_merkle.specs.declared.tree.Entry.{Entry}
 use Rattle.merkle_pages.specs.Nodes.{HashedMap}
 use Rattle.node_journal.specs.declared.stop.Stop.{Stop}
-use Rattle.node_journal.specs.declared.stop.Stop.TheVariants.{Closed, NoMemory, DeviceFault}
 use Rattle.operator_core.specs.declared.records.Who.{Who}
 use Rattle.operator_core.specs.State.{lay_stop}
 use Rattle.operator_core.specs.Inside.{PoolState, TreesState, FitJournal, IsRight, AddsRecord, lay_refusal}
@@ -106,9 +105,7 @@ unfolding lay_effect
 lay_short coin bytes short = rw (le-ltb MOST_LAID (length bytes) short) refl
 
 pub lay_stop-refusal : (stop : Stop) → lay_stop (Err (lay_refusal stop)) ≡ Some stop
-lay_stop-refusal Closed = refl
-lay_stop-refusal NoMemory = refl
-lay_stop-refusal DeviceFault = refl
+lay_stop-refusal stop = grind (arith, common_steps) steps 20000
 
 -- ---- what is kept, once the pool was sealed
 
@@ -126,16 +123,4 @@ pub right_sealed : {H : Type 0} (hash : H) (records now : List (List ℕ)) (body
     → pushed.sealed ≡ roomy.sealed ++ tree.entries ∷ [] → pushed.hash ≡ roomy.hash
     → IsRight hash now who taken pushed
 right_sealed hash records now body who pool undone taken trees roomy pushed tree right adds is ahead same_pool
-    sealed same_trees tree_is taken_is added same_pushed =
-    rw (is, taken_is) (record {
-      who_is = right.who_is ∙ sym adds.who_stays;
-      pool_is = sym (ap (λ (f : Forest). f.pool) adds.forest);
-      sealed_is = added
-          ∙ ap (λ (all : List (List Entry)). all ++ tree.entries ∷ []) (sealed ∙ right.sealed_is)
-          ∙ ap (λ (leaves : List Entry). (forest_in records).sealed ++ leaves ∷ [])
-          (ap (λ (t : HashedMap _). t.entries) tree_is ∙ ahead ∙ right.pool_is)
-          ∙ sym (ap (λ (f : Forest). f.sealed) adds.forest);
-      pool_hash = same_pool ∙ right.pool_hash;
-      trees_hash = same_pushed ∙ same_trees ∙ right.trees_hash;
-      fits = fits_more records body right.fits adds.fits;
-    })
+    sealed same_trees tree_is taken_is added same_pushed = grind (arith, common_steps, fits_more) steps 20000

@@ -1,9 +1,9 @@
 -- What an offer answers and adds.
-use Rattle.std.proofs.Common.{◌≡◌, ℕ, ◌==◌, ◌++◌, not, Bool, true, false, if◌then◌else◌, List, [], ◌∷◌, ◌≤◌, length, Option, Some, None, Result, Ok, Err, refl, sym, ap, ◌∙◌}
+use Rattle.std.proofs.Common.{◌≡◌, ℕ, Bool, true, false, if◌then◌else◌, List, [], ◌∷◌, ◌≤◌, length, Option, Some, None, Result, Ok, Err, refl, ◌∙◌, arith}
 use Rattle.std.specs.Prelude.{MatchResult, is_some}
 use Rattle.std.specs.List.{AllByRecursion}
+use Rattle.std.proofs.lemmas.Grind.{common_steps}
 use Rattle.node_journal.specs.declared.stop.Stop.{Stop}
-use Rattle.node_journal.specs.declared.stop.Stop.TheVariants.{Closed, NoMemory, DeviceFault}
 use Rattle.node_journal.specs.Effect.{Effect, first_cause, unless}
 use Rattle.node_journal.specs.Role.{are_of}
 use Rattle.node_journal.specs.Notes.{NotesState, Did}
@@ -13,14 +13,13 @@ use Rattle.plasma_tx.specs.declared.signed_tx.TxRefusal.{TxRefusal}
 use Rattle.plasma_tx.specs.declared.call.RootCall.{RootCall}
 use Rattle.plasma_tx.specs.declared.views.CoinView.{CoinView}
 use Rattle.plasma_tx.specs.Spelling.{signed_in}
-use Rattle.plasma_tx.specs.Transfer.{is_signed_by}
 use Rattle.plasma_tx.specs.Views.{blocks, coin_at}
 use Rattle.operator_rules.specs.declared.refusal.OfferRefusal.{OfferRefusal}
-use Rattle.operator_rules.specs.declared.refusal.OfferRefusal.TheVariants.{NotTransfer, NoCoin, WrongParent, BadSignature, TooLate, PoolHasCoin, DeviceFault as FaultOffer, Closed as ClosedOffer, NoMemory as NoMemoryOffer}
+use Rattle.operator_rules.specs.declared.refusal.OfferRefusal.TheVariants.{NoMemory as NoMemoryOffer}
 use Rattle.operator_rules.specs.Records.{Offered, note_text, operator_kinds, who_is}
 use Rattle.operator_rules.specs.Trees.{Forest, coin_named, is_waiting}
 use Rattle.operator_rules.specs.Walk.{Place, present}
-use Rattle.operator_rules.specs.Commands.{forest_in, late_causes, offer_causes, offer_at, offer_of, offer_effect}
+use Rattle.operator_rules.specs.Commands.{forest_in, offer_causes, offer_at, offer_of, offer_effect}
 use Rattle.operator_rules.proofs.Trees.{coin-named}
 use Rattle.operator_rules.proofs.Run.{offerable}
 use Rattle.operator_rules.proofs.Openings.{leaf-short}
@@ -30,9 +29,7 @@ use Rattle.operator_core.specs.Known.{has_its_coin}
 use Rattle.operator_core.proofs.Adds.{adds_offered}
 
 pub offer_stop-refusal : (stop : Stop) → offer_stop (Err (offer_refusal stop)) ≡ Some stop
-offer_stop-refusal Closed = refl
-offer_stop-refusal NoMemory = refl
-offer_stop-refusal DeviceFault = refl
+offer_stop-refusal stop = grind (arith, common_steps) steps 20000
 
 -- a coin is answered with its note, and a refusal of the rules without
 IsFine : List ℕ → Effect (Result ℕ OfferRefusal) → Type 0
@@ -46,8 +43,7 @@ first-fine : (causes : List (Bool × OfferRefusal)) (why : OfferRefusal)
 first-fine [] why all is = absurd (cc is)
 first-fine (cause ∷ causes) why all is =
     (elim cause.0 as (λ b. (if b then Some cause.1 else first_cause causes) ≡ Some why → offer_stop (Err why) ≡ None) [
-      | true ↦ λ same. (let e : cause.1 ≡ why = cc same in ap (λ (w : OfferRefusal). offer_stop (Err w)) (sym e)
-          ∙ all.0)
+      | true ↦ grind (arith, common_steps) steps 20000
       | false ↦ λ rest. first-fine causes why all.1 rest
     ]) is
 
@@ -60,15 +56,7 @@ unless-fine bytes (Some why) effect fine rules = (refl, rules why refl)
 
 causes-fine : (count : ℕ) (tx : SignedTx) (tip : Place) (waiting : Bool)
     → AllByRecursion (λ cause. offer_stop (Err cause.1) ≡ None) (offer_causes count tx tip waiting)
-causes-fine count tx tip waiting =
-    elim tx.body.last as (λ last. AllByRecursion (λ cause. offer_stop (Err cause.1) ≡ None)
-    (((not (tx.body.parent == tip.block), WrongParent tip.block)
-    ∷ (not (is_signed_by tx tip.owner), BadSignature)
-    ∷ late_causes count last)
-    ++ (waiting, PoolHasCoin) ∷ [])) [
-      | None ↦ (refl, (refl, (refl, tt)))
-      | Some last ↦ (refl, (refl, (refl, (refl, tt))))
-    ]
+causes-fine count tx tip waiting = grind (arith, common_steps) steps 20000
 
 module _ (dig : List ℕ → List ℕ) (tag : List ℕ) (log : List RootCall) (forest : Forest) (bytes : List ℕ) where
   at-fine : (tx : SignedTx) (made : Option CoinView) → tx.body.coin ≡ coin_named bytes
@@ -100,9 +88,7 @@ there-at dig tag log forest bytes tx (Some made) coin is = refl
 there-of : (dig : List ℕ → List ℕ) (tag : List ℕ) (log : List RootCall) (forest : Forest) (bytes : List ℕ)
     (read : Result SignedTx TxRefusal) (coin : ℕ)
     → Ok coin ≡ (offer_of dig tag log forest bytes read).answer → has_its_coin log read ≡ true
-there-of dig tag log forest bytes (Err why) coin is = absurd (cc is)
-there-of dig tag log forest bytes (Ok tx) coin is =
-    there-at dig tag log forest bytes tx (coin_at log tx.body.coin) coin is
+there-of dig tag log forest bytes read coin is = grind (arith, common_steps, there-at) steps 20000
 
 pub offered_there : (dig : List ℕ → List ℕ) (records : List (List ℕ)) (log : List RootCall) (bytes : List ℕ) (coin : ℕ)
     → Ok coin ≡ (offer_effect dig records log bytes).answer
@@ -128,9 +114,7 @@ fine-err : (bytes : List ℕ) (answer : Result ℕ OfferRefusal) (added : Option
     → IsFine bytes (record { answer = answer; note = added }) → Err why ≡ answer
     → (added ≡ None) × (offer_stop (Err why) ≡ None)
 unfolding IsFine
-fine-err bytes (Ok named) added why fine is = absurd (cc is)
-fine-err bytes (Err other) added why fine is =
-    (fine.0, ap (λ (w : OfferRefusal). offer_stop (Err w)) (let e : why ≡ other = cc is in e) ∙ fine.1)
+fine-err bytes answer added why fine is = grind (arith, common_steps) steps 20000
 
 module _ (dig : List ℕ → List ℕ) (records : List (List ℕ)) (log : List RootCall) (bytes : List ℕ) where
   -- a coin that is answered is the one that the bytes name, and their note is added
@@ -142,11 +126,7 @@ module _ (dig : List ℕ → List ℕ) (records : List (List ℕ)) (log : List R
 
   offered-short : (coin : ℕ) → Ok coin ≡ (offer_effect dig records log bytes).answer → length bytes ≤ 2632
   unfolding offer_effect
-  offered-short coin is =
-      let shown = offerable dig (who_is records).tag log (forest_in records) bytes coin (sym is) in
-      leaf-short (who_is records).tag bytes shown.tx
-      (present dig (who_is records).tag log (forest_in records).sealed shown.tx.body.coin shown.made).owner
-      shown.tx_is shown.signed
+  offered-short coin is = grind (arith, common_steps, offerable, leaf-short) steps 20000
 
   pub offered_adds : (coin : ℕ) → are_of operator_kinds records ≡ true
       → Ok coin ≡ (offer_effect dig records log bytes).answer
@@ -169,19 +149,4 @@ pub did_refused : {D : Type 0} (told : D → Option History) (plan : D → Optio
     (added : Option (List ℕ)) (old : NotesState D) (why : OfferRefusal) → old.closed ≡ false
     → ((why ≡ NoMemoryOffer → ⊥) → (added ≡ None) × (offer_stop (Err why) ≡ None))
     → Did told plan faults added old (offer_stop (Err why)) old
-did_refused told plan faults added old why is_open ruled = at why ruled
-  where
-    stays : added ≡ None → Did told plan faults added old None old
-    stays none = rw none (is_open, refl)
-
-    at : (w : OfferRefusal) → ((w ≡ NoMemoryOffer → ⊥) → (added ≡ None) × (offer_stop (Err w) ≡ None))
-        → Did told plan faults added old (offer_stop (Err w)) old
-    at NotTransfer rule = stays (rule (λ e. cc e)).0
-    at NoCoin rule = stays (rule (λ e. cc e)).0
-    at (WrongParent tip) rule = stays (rule (λ e. cc e)).0
-    at BadSignature rule = stays (rule (λ e. cc e)).0
-    at (TooLate last) rule = stays (rule (λ e. cc e)).0
-    at PoolHasCoin rule = stays (rule (λ e. cc e)).0
-    at FaultOffer rule = (let wrong : Some DeviceFault ≡ None = (rule (λ e. cc e)).1 in absurd (cc wrong))
-    at ClosedOffer rule = (let wrong : Some Closed ≡ None = (rule (λ e. cc e)).1 in absurd (cc wrong))
-    at NoMemoryOffer rule = (is_open, refl)
+did_refused told plan faults added old why is_open ruled = grind (arith, common_steps) steps 20000

@@ -1,5 +1,6 @@
 -- Openings and beginnings that are given up for want of memory.
-use Rattle.std.proofs.Common.{◌≡◌, ℕ, List, [], length, Option, Some, None, option_map, Result, Err, refl, ap, ◌∙◌, inl, arith}
+use Rattle.std.proofs.Common.{◌≡◌, ℕ, List, [], length, Option, Some, None, option_map, Result, Err, refl, inl, arith}
+use Rattle.std.proofs.lemmas.Grind.{common_steps}
 use Rattle.crash_disk.specs.Disk.{Step, History, content, FaultPlan}
 use Rattle.crash_disk.specs.Calls.{passed, stopped_after, after_course, Made}
 use Rattle.crash_disk.proofs.Calls.{made_stop}
@@ -13,17 +14,7 @@ use Rattle.operator_core.specs.Inside.{FitJournal}
 pub given_up : {D : Type 0} (told : D → Option History) (plan : D → Option FaultPlan) (faults : D → ℕ)
     (read : List ℕ → Result (List (List ℕ)) ℕ) (old : D) (new : NotesState D)
     → Opened told plan faults read old new → RefusesRole told plan faults read old JournalNoMemory new.disk
-given_up told plan faults read old new opened = record {
-  refused = (
-    3,
-    (λ one. absurd (omega (arith, one))),
-    record {
-      calls = opened.made.calls;
-      planned = (omega arith, opened.made.planned.0, opened.made.planned.1);
-    },
-  );
-  count = opened.count;
-}
+given_up told plan faults read old new opened = grind (arith, common_steps) steps 20000
 
 -- records that were read from a disk that tells what it holds fit a journal
 pub not_long : {D : Type 0} (told : D → Option History) (plan : D → Option FaultPlan) (faults : D → ℕ)
@@ -35,8 +26,7 @@ not_long told plan faults read old new records place opened same long = record {
     opened.made,
     λ before is. absurd (long (rw same (opened.settled
         (after_course passed (open_steps (content before)) before)
-        (opened.made.calls ∙ ap (λ (t : Option History). option_map (λ (b : History). after_course passed
-        (open_steps (content b)) b) t) is)).kept.fits)),
+        (grind (arith, common_steps) steps 20000)).kept.fits)),
   );
   count = opened.count;
 }

@@ -1,5 +1,5 @@
 -- The sealed trees, and the index of their roots.
-use Rattle.std.proofs.Common.{◌≡◌, ℕ, zero, suc, ◌+◌, ◌<◌, cond, ◌||◌, Bool, true, false, List, [], ◌∷◌, ◌++◌, length, find, if◌then◌else◌, Option, Some, None, is_some, option_map, IfSome, Bor, refl, sym, ap, ◌∙◌, inl, inr, arith, get_or}
+use Rattle.std.proofs.Common.{◌≡◌, ℕ, zero, suc, ◌+◌, ◌<◌, ◌||◌, Bool, true, false, List, [], ◌∷◌, ◌++◌, length, find, if◌then◌else◌, Option, Some, None, is_some, option_map, IfSome, Bor, refl, sym, ap, ◌∙◌, inl, inr, arith, get_or}
 use Rattle.std.specs.List.{All, AllByRecursion, list_any, position_from, slice_get}
 use Rattle.std.specs.HashMap.{HashMap, get, Updates}
 use Rattle.std.specs.Str.{bytes_eq}
@@ -7,11 +7,12 @@ use Rattle.std.proofs.lemmas.Bool.{cases_Bool, true≢false}
 use Rattle.std.proofs.lemmas.List.{get_or-map, length-map, map-append}
 use Rattle.std.proofs.lemmas.List.Elements.{All-append, All-cons, All-nil, recursion_from_All}
 use Rattle.std.proofs.lemmas.Slice.Eq.{bytes_eq-Decides}
+use Rattle.std.proofs.lemmas.Grind.{common_steps}
 use Rattle.sparse_merkle.specs.declared.tree.Entry.{Entry}
 use Rattle.sparse_merkle.specs.TreeDigest.{root_of}
 use Rattle.merkle_pages.specs.Nodes.{HashedMap}
 use Rattle.operator_rules.specs.Trees.{tree_of}
-use Rattle.operator_core.specs.Inside.{entries_of, place_of, with_place, KeepsTrees}
+use Rattle.operator_core.specs.Inside.{entries_of, with_place, KeepsTrees}
 
 -- ---- the first that passes
 
@@ -24,10 +25,8 @@ module _ {X : Type 0} (p : X → Bool) where
       → position_from p i (xs ++ x ∷ []) ≡ or_last k x (position_from p i xs)
   place-push [] x i k e =
       ap (λ (n : ℕ). if p x then Some n else None) (let same : i ≡ k = omega (arith, e) in same)
-  place-push (y ∷ ys) x i k e = elim (cases_Bool (p y)) [
-    | inl is ↦ rw is refl
-    | inr isnt ↦ rw isnt (place-push ys x (i + 1) k (omega (arith, e)))
-  ]
+  place-push (y ∷ ys) x i k e =
+      grind (arith, common_steps, place-push ys x (i + 1) k (omega (arith, e)), cases_Bool) steps 20000
 
   none-found : (xs : List X) (i : ℕ) → position_from p i xs ≡ None → find p xs ≡ None
   none-found [] i is = refl
@@ -46,13 +45,7 @@ module _ {X : Type 0} (p : X → Bool) where
   first-found [] i k is = absurd (cc is)
   first-found (y ∷ ys) i k is = elim (cases_Bool (p y)) [
     | inl here ↦
-        let same : Some i ≡ Some k = rw here at is in
-        record {
-          count = 0;
-          at = (let e : i ≡ k = cc same in omega (arith, e));
-          within = omega arith;
-          found = λ d. rw here refl;
-        }
+        grind (arith, common_steps) steps 20000
     | inr isnt ↦
         let rest = first-found ys (i + 1) k (rw isnt at is) in
         record {
@@ -76,9 +69,7 @@ module _ {H S : Type 0} (hash : H) (dig : List ℕ → List ℕ) (trees : List (
   pub no_tree : (root : List ℕ) → KeepsTrees hash dig trees index → None ≡ get bytes_eq index root
       → None ≡ tree_of dig (entries_of trees) root
   unfolding tree_of
-  no_tree root keeps is =
-      sym (none-found (λ tree. bytes_eq (root_of dig tree) root) (entries_of trees) 0
-      (sym (keeps.places root) ∙ sym is))
+  no_tree root keeps is = grind (arith, common_steps, none-found) steps 20000
 
   -- what stands at the place that the index gives
   pub has_tree : (root : List ℕ) (place : ℕ) → KeepsTrees hash dig trees index → Some place ≡ get bytes_eq index root
@@ -105,12 +96,7 @@ module _ {H S : Type 0} (hash : H) (dig : List ℕ → List ℕ) (trees : List (
 
   pub tree_known : (root : List ℕ) → KeepsTrees hash dig trees index → is_some (get bytes_eq index root) ≡ true
       → is_some (tree_of dig (entries_of trees) root) ≡ true
-  tree_known root keeps = by (get bytes_eq index root) refl
-    where
-      by : (o : Option ℕ) → o ≡ get bytes_eq index root → is_some o ≡ true
-          → is_some (tree_of dig (entries_of trees) root) ≡ true
-      by None is some = absurd (true≢false (sym some))
-      by (Some place) is some = ap (λ (t : Option (List Entry)). is_some t) (has_tree root place keeps is).3
+  tree_known root keeps = grind (arith, common_steps, true≢false, has_tree) steps 20000
 
   pub pushed : {T : Type 0} (tree : HashedMap H) (new : HashMap (List ℕ) ℕ T) (root : List ℕ) (place : ℕ)
       → KeepsTrees hash dig trees index
@@ -120,14 +106,7 @@ module _ {H S : Type 0} (hash : H) (dig : List ℕ → List ℕ) (trees : List (
   pushed tree new root place keeps at_end same is adds = record {
     hashes = All-append (λ one. one.hash ≡ hash) trees (tree ∷ []) keeps.hashes
         (All-cons (λ one. one.hash ≡ hash) tree [] same (All-nil (λ one. one.hash ≡ hash)));
-    places = λ other. adds other
-        ∙ ap (λ (n : ℕ). with_place root n other (get bytes_eq index other)) at_end
-        ∙ ap (with_place root (length trees) other) (keeps.places other)
-        ∙ last other (place_of dig (entries_of trees) other)
-        ∙ sym (ap (λ (all : List (List Entry)). place_of dig all other) (map-append (λ
-        (t : HashedMap H). t.entries) trees (tree ∷ []))
-        ∙ place-push (λ t. bytes_eq (root_of dig t) other) (entries_of trees) tree.entries 0 (length trees)
-        (omega (arith, length-map trees (λ (t : HashedMap H). t.entries))));
+    places = grind (arith, common_steps, last, map-append, place-push, length-map) steps 20000;
   }
     where
       last : (other : List ℕ) (o : Option ℕ) → with_place root (length trees) other o
@@ -139,35 +118,14 @@ module _ {H S : Type 0} (hash : H) (dig : List ℕ → List ℕ) (trees : List (
 pub root_known : {S : Type 0} (index : HashMap (List ℕ) ℕ S) (root : List ℕ) (place : ℕ) (other : List ℕ)
     → is_some (get bytes_eq index root) ≡ true
     → get bytes_eq index other ≡ with_place root place other (get bytes_eq index other)
-root_known index root place other known = at (get bytes_eq index other) refl
-  where
-    at : (o : Option ℕ) → get bytes_eq index other ≡ o → o ≡ with_place root place other o
-    at (Some found) is = refl
-    at None is = elim (cases_Bool (bytes_eq root other)) [
-      | inl same ↦
-          let e : root ≡ other = (bytes_eq-Decides root other).0 same in
-          let none : is_some (get bytes_eq index root) ≡ false = ap (λ (r : List ℕ). is_some (get bytes_eq index r)) e
-          ∙ ap (λ (o : Option ℕ). is_some o) is in
-          absurd (true≢false (sym known ∙ none))
-      | inr apart ↦ rw apart refl
-    ]
+root_known index root place other known =
+    grind (arith, common_steps, cases_Bool, bytes_eq-Decides, true≢false) steps 20000
 
 pub root_added : {S : Type 0} (index new : HashMap (List ℕ) ℕ S) (root : List ℕ) (place : ℕ) (other : List ℕ)
     → is_some (get bytes_eq index root) ≡ false → Updates bytes_eq index new root (Some place)
     → get bytes_eq new other ≡ with_place root place other (get bytes_eq index other)
-root_added index new root place other unknown adds = adds.0 other ∙ at (get bytes_eq index other) refl
-  where
-    at : (o : Option ℕ) → get bytes_eq index other ≡ o
-        → cond (bytes_eq root other) (Some place) o ≡ with_place root place other o
-    at None is = refl
-    at (Some found) is = elim (cases_Bool (bytes_eq root other)) [
-      | inl same ↦
-          let e : root ≡ other = (bytes_eq-Decides root other).0 same in
-          let some : is_some (get bytes_eq index root) ≡ true = ap (λ (r : List ℕ). is_some (get bytes_eq index r)) e
-          ∙ ap (λ (o : Option ℕ). is_some o) is in
-          absurd (true≢false (sym some ∙ unknown))
-      | inr apart ↦ rw apart refl
-    ]
+root_added index new root place other unknown adds =
+    grind (arith, common_steps, cases_Bool, bytes_eq-Decides, true≢false) steps 20000
 
 -- so what was found there is the tree of the root
 pub found_is : {H : Type 0} (trees : List (HashedMap H)) (place : ℕ) (hash : H) (result : Option (Bor (HashedMap H)))
@@ -175,10 +133,7 @@ pub found_is : {H : Type 0} (trees : List (HashedMap H)) (place : ℕ) (hash : H
     → (tree : HashedMap H) × (slice_get trees place ≡ Some tree) × (tree.hash ≡ hash) × (wanted ≡ Some tree.entries)
     → option_map (λ tree. tree.now) result ≡ slice_get trees place
     → (option_map (λ tree. tree.now.entries) result ≡ wanted) × IfSome result (λ tree. tree.now.hash ≡ hash)
-found_is trees place hash None wanted has is = absurd (let wrong : None ≡ Some has.0 = is ∙ has.1 in cc wrong)
-found_is trees place hash (Some tree) wanted has is =
-    let same : tree.now ≡ has.0 = (let e : Some tree.now ≡ Some has.0 = is ∙ has.1 in cc e) in
-    (ap (λ (t : HashedMap _). Some t.entries) same ∙ sym has.3, ap (λ (t : HashedMap _). t.hash) same ∙ has.2)
+found_is trees place hash result wanted has is = grind (arith, common_steps) steps 20000
 
 -- trees that were made with one digest pass a test alike by it and by their own
 pub any-same : {H : Type 0} (dig_of : H → List ℕ → List ℕ) (hash : H) (test : (List ℕ → List ℕ) → List Entry → Bool)

@@ -1,17 +1,15 @@
 -- The leaves of a pool and of sealed trees fit a journal's record, as the records do that they come from.
-use Rattle.std.proofs.Common.{◌≡◌, ◌≢◌, ◌⊎◌, ℕ, ◌≤◌, ◌==◌, ◌&&◌, Bool, true, false, if◌then◌else◌, List, [], ◌∷◌, ◌++◌, length, drop, All, Option, Some, None, refl, sym, ap, ◌∙◌, subst, inl, inr, append-nil, append_assoc, length-drop, arith}
+use Rattle.std.proofs.Common.{◌≡◌, ℕ, ◌≤◌, ◌==◌, ◌&&◌, true, false, if◌then◌else◌, List, [], ◌∷◌, ◌++◌, length, drop, Option, Some, None, sym, subst, append-nil, append_assoc, length-drop, arith}
 use Rattle.std.specs.Prelude.{IfSome, nat_le}
-use Rattle.std.specs.List.{AllByRecursion}
-use Rattle.std.specs.Option.{option_map, option_and_then}
-use Rattle.std.specs.Str.{bytes_eq}
+use Rattle.std.specs.Option.{option_map}
 use Rattle.std.proofs.lemmas.Bool.{cases_eq}
-use Rattle.std.proofs.lemmas.List.Elements.{All-nil, All-head, All-tail}
+use Rattle.std.proofs.lemmas.List.Elements.{All-head, All-tail}
+use Rattle.std.proofs.lemmas.Grind.{common_steps}
 use Rattle.gate_journal.specs.Image.{most}
 use Rattle.sparse_merkle.specs.declared.tree.Entry.{Entry}
-use Rattle.sparse_merkle.specs.TreeDigest.{leaf_of, with_leaf, root_of}
+use Rattle.sparse_merkle.specs.TreeDigest.{leaf_of, with_leaf}
 use Rattle.sparse_merkle.proofs.TreeLaws.{leaf_of-with_leaf, leaf_of-with_other}
 use Rattle.plasma_tx.specs.declared.call.RootCall.{RootCall}
-use Rattle.plasma_tx.specs.Shown.{root_at}
 use Rattle.plasma_tx.specs.Spelling.{number_at}
 use Rattle.plasma_tx.proofs.Each.{all-append, all-found}
 use Rattle.operator_rules.specs.Records.{Note, Offered, Laid, Sealed, note_in, notes_of, who_is, spells_transfer}
@@ -40,11 +38,7 @@ note-fits tag (mark ∷ bytes) le =
           then Some (Laid (number_at bytes 0) (drop 8 bytes))
           else if (mark == 36) && (length bytes == 0) then Some Sealed else None) NoteFits) [
             | true ↦ omega (arith, length-drop 8 bytes)
-            | false ↦ elim ((mark == 36) && (length bytes == 0)) as (λ b. IfSome (if b then Some Sealed else None)
-                NoteFits) [
-                  | true ↦ tt
-                  | false ↦ tt
-                ]
+            | false ↦ grind (arith, common_steps) steps 20000
           ]
     ]
 
@@ -59,13 +53,8 @@ none-short coin = omega arith
 
 with-short : (entries : List Entry) (coin : ℕ) (leaf : List ℕ) → HasShortLeaves entries → length leaf ≤ most
     → HasShortLeaves (with_leaf entries coin leaf)
-with-short entries coin leaf short fits other = elim (cases_eq other coin) [
-  | inl here ↦
-      subst (λ (c : ℕ). length (leaf_of (with_leaf entries coin leaf) c) ≤ most) (sym here)
-      (subst (λ (l : List ℕ). length l ≤ most) (sym (leaf_of-with_leaf entries coin leaf)) fits)
-  | inr apart ↦
-      subst (λ (l : List ℕ). length l ≤ most) (sym (leaf_of-with_other entries coin other leaf apart)) (short other)
-]
+with-short entries coin leaf short fits other =
+    grind (arith, common_steps, cases_eq, leaf_of-with_leaf, leaf_of-with_other) steps 20000
 
 short-note : (note : Note) (forest : Forest) → NoteFits note → IsShort forest → IsShort (after_note note forest)
 unfolding NoteFits
@@ -73,16 +62,11 @@ short-note (Offered bytes) forest fits short =
     record { pool = with-short forest.pool (coin_named bytes) bytes short.pool fits; sealed = short.sealed }
 short-note (Laid coin bytes) forest fits short =
     record { pool = with-short forest.pool coin bytes short.pool fits; sealed = short.sealed }
-short-note Sealed forest fits short = record {
-  pool = none-short;
-  sealed = all-append HasShortLeaves forest.sealed forest.pool short.sealed short.pool;
-}
+short-note Sealed forest fits short = grind (arith, common_steps, none-short, all-append) steps 20000
 
 short-change : (found : Option Note) (forest : Forest) → IfSome found NoteFits → IsShort forest
     → IsShort (changed (option_map put_of found) forest)
-short-change None forest fits short = short
-short-change (Some note) forest fits short =
-    subst IsShort (sym (with_put-is note forest)) (short-note note forest fits short)
+short-change found forest fits short = grind (arith, common_steps, with_put-is, short-note) steps 20000
 
 short-more : (tag : List ℕ) (front rest : List (List ℕ)) → IsShort (forest_of (notes_among tag front))
     → FitJournal rest → IsShort (forest_of (notes_among tag (front ++ rest)))
@@ -121,10 +105,4 @@ pub short_found : (dig : List ℕ → List ℕ) (log : List RootCall) (sealed : 
     (tree : List Entry) → AreShortTrees sealed → Some tree ≡ tree_at dig log sealed n
     → length (leaf_of tree coin) ≤ most
 unfolding tree_of
-short_found dig log sealed n coin tree short is = at (root_at log n) is
-  where
-    at : (root : Option (List ℕ)) → Some tree ≡ option_and_then (tree_of dig sealed) root
-        → length (leaf_of tree coin) ≤ most
-    at None is = absurd (cc is)
-    at (Some root) is =
-        (all-found HasShortLeaves (λ (t : List Entry). bytes_eq (root_of dig t) root) sealed tree short (sym is)).0 coin
+short_found dig log sealed n coin tree short is = grind (arith, common_steps, all-found) steps 20000

@@ -3,22 +3,19 @@ use Rattle.std.proofs.Common.{◌≡◌, ◌≤◌, ℕ, true, false, List, [], 
 use Rattle.std.specs.Prelude.{slice_range}
 use Rattle.std.specs.Result.{is_ok}
 use Rattle.std.proofs.lemmas.Bool.{cases_Bool}
+use Rattle.std.proofs.lemmas.Grind.{common_steps}
 use Rattle.plasma_tx.specs.declared.body.Body.{Body}
 use Rattle.plasma_tx.specs.declared.signed_tx.TxRefusal.{TxRefusal}
-use Rattle.plasma_tx.specs.Spelling.{signed_in, body_in, with_signature, has_second_mark}
+use Rattle.plasma_tx.specs.Spelling.{signed_in, body_in, has_second_mark}
 use Rattle.plasma_tx.proofs.Spellings.{Fits, body_in-ok}
 use Rattle.plasma_tx.proofs.Parts.{length-range}
-use Rattle.operator_rules.specs.Records.{is_read, spells_transfer}
+use Rattle.operator_rules.specs.Records.{spells_transfer}
 use Rattle.operator_core.specs.Texts.{offered_coin}
 
 -- a body is read where a signed transfer is
 pub read_same : (tag bytes : List ℕ) → spells_transfer tag bytes ≡ is_ok (body_in tag bytes)
 unfolding signed_in
-read_same tag bytes = at (body_in tag bytes)
-  where
-    at : (r : Result Body TxRefusal) → is_read (with_signature bytes r) ≡ is_ok r
-    at (Ok body) = refl
-    at (Err why) = refl
+read_same tag bytes = grind (arith, common_steps) steps 20000
 
 -- a body that is read has the tag at its place
 pub no_transfer : (bytes : List ℕ) → spells_transfer [] bytes ≡ false
@@ -43,14 +40,12 @@ no_transfer bytes = read_same [] bytes ∙ at (body_in [] bytes) refl
 pub coin_read : (tag bytes : List ℕ) (body : Body) → body_in tag bytes ≡ Ok body
     → Some body.coin ≡ offered_coin tag bytes
 coin_read tag bytes body is =
-    let read : spells_transfer tag bytes ≡ true = read_same tag bytes
-    ∙ ap (λ (r : Result Body TxRefusal). is_ok r) is in
+    let read : spells_transfer tag bytes ≡ true = grind (arith, common_steps, read_same) steps 20000 in
     rw (read, (body_in-ok tag bytes body is).1) refl
 
 pub not_read : (tag bytes : List ℕ) (why : TxRefusal) → body_in tag bytes ≡ Err why → offered_coin tag bytes ≡ None
 not_read tag bytes why is =
-    let unread : spells_transfer tag bytes ≡ false = read_same tag bytes
-    ∙ ap (λ (r : Result Body TxRefusal). is_ok r) is in
+    let unread : spells_transfer tag bytes ≡ false = grind (arith, common_steps, read_same) steps 20000 in
     rw unread refl
 
 pub ruleset reading = (no_transfer, coin_read, not_read)

@@ -1,6 +1,5 @@
 -- Where walks ended.
-use Rattle.std.proofs.Common.{◌≡◌, ◌≢◌, ℕ, zero, suc, ◌+◌, ◌<◌, ◌≤◌, Bool, true, false, List, [], ◌∷◌, ◌++◌, length, find, get_or, if◌then◌else◌, Option, Some, None, is_some, refl, sym, ap, ◌∙◌, subst, inl, inr, arith, length-append}
-use Rattle.std.specs.Prelude.{nat_lt}
+use Rattle.std.proofs.Common.{◌≡◌, ◌≢◌, ℕ, zero, suc, ◌+◌, ◌<◌, ◌≤◌, Bool, true, false, List, [], ◌∷◌, ◌++◌, length, find, get_or, Option, Some, None, is_some, refl, sym, ap, ◌∙◌, subst, inl, inr, arith}
 use Rattle.std.specs.Option.{option_and_then}
 use Rattle.std.specs.Ordering.{nat_cmp}
 use Rattle.std.specs.Str.{bytes_eq}
@@ -8,15 +7,15 @@ use Rattle.std.specs.BTreeMap.{get}
 use Rattle.std.proofs.lemmas.Bool.{cases_Bool, cases_lt, true≢false}
 use Rattle.std.proofs.lemmas.List.{get_or_append_left, get_or_push}
 use Rattle.std.proofs.lemmas.Slice.Eq.{bytes_eq-Decides}
+use Rattle.std.proofs.lemmas.Grind.{common_steps}
 use Rattle.sparse_merkle.specs.declared.tree.Entry.{Entry}
-use Rattle.sparse_merkle.specs.TreeDigest.{root_of, leaf_of}
+use Rattle.sparse_merkle.specs.TreeDigest.{root_of}
 use Rattle.plasma_tx.specs.declared.call.RootCall.{RootCall}
 use Rattle.plasma_tx.specs.declared.views.CoinView.{CoinView}
 use Rattle.plasma_tx.specs.Shown.{root_at}
-use Rattle.plasma_tx.specs.Transfer.{transfer_in}
 use Rattle.plasma_tx.specs.Views.{blocks}
 use Rattle.operator_rules.specs.Trees.{tree_of, tree_at}
-use Rattle.operator_rules.specs.Walk.{start_of, moved_by, place_at}
+use Rattle.operator_rules.specs.Walk.{place_at}
 use Rattle.operator_core.specs.declared.ends.End.{End}
 use Rattle.operator_core.specs.declared.ends.Ends.{Ends}
 use Rattle.operator_core.specs.Tips.{place_of_tip}
@@ -26,10 +25,7 @@ use Rattle.operator_core.specs.Walked.{Follows, IsEnd, IsOnWay, KeepsEnds}
 
 module _ (log : List RootCall) where
   pub follows-none : (roots : List (Option (List ℕ))) → roots ≡ [] → Follows log roots
-  follows-none roots none = record {
-    roots_are = λ m lt. absurd (let e : length roots ≡ 0 = ap (λ (rs : List (Option (List ℕ))). length rs) none in
-        omega (arith, lt, e));
-  }
+  follows-none roots none = grind (arith, common_steps) steps 20000
 
   pub follows-more : (roots : List (Option (List ℕ))) (root : Option (List ℕ)) (n : ℕ) → length roots ≡ n
       → root ≡ root_at log (n + 1) → Follows log roots → Follows log (roots ++ root ∷ [])
@@ -37,17 +33,14 @@ module _ (log : List RootCall) where
     roots_are = λ m lt. elim (cases_lt m (length roots)) [
       | inl before ↦ get_or_append_left roots (root ∷ []) None m before ∙ follows.roots_are m before
       | inr past ↦
-          (let e : m ≡ n = omega (arith, lt, past, long, length-append roots (root ∷ [])) in
-          get_or_push roots root None m (let f : length roots ≡ m = omega (arith, long, e) in f) ∙ is
-          ∙ ap (λ (k : ℕ). root_at log (k + 1)) (sym e))
+          grind (arith, common_steps, get_or_push) steps 20000
     ];
   }
 
   pub follows-front : (roots : List (Option (List ℕ))) (root : Option (List ℕ)) → Follows log (roots ++ root ∷ [])
       → Follows log roots
   follows-front roots root follows = record {
-    roots_are = λ m lt. sym (get_or_append_left roots (root ∷ []) None m lt)
-        ∙ follows.roots_are m (omega (arith, lt, length-append roots (root ∷ [])));
+    roots_are = λ m lt. grind (arith, common_steps, get_or_append_left) steps 20000;
   }
 
 -- ---- the places
@@ -65,10 +58,7 @@ module _ (dig : List ℕ → List ℕ) where
       let here : tree_at dig more others (suc n) ≡ tree_at dig log sealed (suc n) =
       subst (λ (k : ℕ). tree_at dig more others k ≡ tree_at dig log sealed k) e (same n (omega arith)) in
       let before = place-alike tag log more sealed others coin made n (λ m lt. same m (omega (arith, lt))) in
-      λ i. if nat_lt made.deposit (suc n)
-      then moved_by (suc n) (before i)
-      (option_and_then (λ tree. transfer_in tag coin (suc n) (leaf_of tree coin)) (here i))
-      else start_of made
+      grind (arith, common_steps) steps 20000
 
   -- so under each other log that follows the roots a walk is there too
   pub end_is : (sealed : List (List Entry)) (roots : List (Option (List ℕ))) (coin : ℕ) (end : End)
@@ -77,26 +67,19 @@ module _ (dig : List ℕ → List ℕ) where
       → IsEnd dig sealed roots coin end
   end_is sealed roots coin end log follows within placed = record {
     within = within;
-    placed = λ more others. placed ∙ place-alike end.tag more log sealed sealed coin end.made end.upto (λ m lt.
-        ap (option_and_then (tree_of dig sealed)) (sym (follows.roots_are m (omega (arith, lt, within)))
-        ∙ others.roots_are m (omega (arith, lt, within))));
+    placed = λ more others. grind (arith, common_steps, place-alike) steps 20000;
   }
 
   pub end-more : (sealed : List (List Entry)) (roots : List (Option (List ℕ))) (root : Option (List ℕ)) (coin : ℕ)
       (end : End) → IsEnd dig sealed roots coin end → IsEnd dig sealed (roots ++ root ∷ []) coin end
-  end-more sealed roots root coin end is = record {
-    within = omega (arith, is.within, length-append roots (root ∷ []));
-    placed = λ log follows. is.placed log (follows-front log roots root follows);
-  }
+  end-more sealed roots root coin end is = grind (arith, common_steps, follows-front) steps 20000
 
 -- ---- what is kept
 
 module _ (dig : List ℕ → List ℕ) (sealed : List (List Entry)) where
   pub ends-same : (ends new : Ends) → new.ends ≡ ends.ends → new.roots.items ≡ ends.roots.items
       → KeepsEnds dig sealed ends → KeepsEnds dig sealed new
-  ends-same ends new same items keeps = record {
-    each = λ coin end is. rw items (keeps.each coin end (ap (λ m. get nat_cmp m coin) (sym same) ∙ is));
-  }
+  ends-same ends new same items keeps = grind (arith, common_steps) steps 20000
 
   pub ends-more : (ends new : Ends) (root : Option (List ℕ)) → new.ends ≡ ends.ends
       → new.roots.items ≡ ends.roots.items ++ root ∷ [] → KeepsEnds dig sealed ends → KeepsEnds dig sealed new
@@ -110,22 +93,14 @@ module _ (dig : List ℕ → List ℕ) (sealed : List (List Entry)) where
       → KeepsEnds dig sealed ends → Follows log ends.roots.items → get nat_cmp ends.ends coin ≡ Some end
       → end.tag ≡ tag → end.made ≡ made → made.deposit ≤ end.upto → end.upto ≤ blocks log
       → IsOnWay dig tag log sealed coin made end
-  on_way tag log coin made ends end keeps follows is tag_is made_is low high = record {
-    placed = (keeps.each coin end is).placed log follows
-        ∙ (λ i. place_at dig (tag_is i) log sealed coin (made_is i) end.upto);
-    low = low;
-    high = λ lt. high;
-  }
+  on_way tag log coin made ends end keeps follows is tag_is made_is low high = grind (arith, common_steps) steps 20000
 
 -- ---- one more tree
 
 module _ {X : Type 0} (p : X → Bool) where
   find-push : (xs : List X) (x : X) → p x ≡ false → find p (xs ++ x ∷ []) ≡ find p xs
   find-push [] x isnt = rw isnt refl
-  find-push (y ∷ ys) x isnt = elim (cases_Bool (p y)) [
-    | inl here ↦ rw here refl
-    | inr other ↦ rw other (find-push ys x isnt)
-  ]
+  find-push (y ∷ ys) x isnt = grind (arith, common_steps, find-push ys x isnt, cases_Bool) steps 20000
 
   find-kept : (xs : List X) (x : X) → is_some (find p xs) ≡ true → find p (xs ++ x ∷ []) ≡ find p xs
   find-kept [] x some = absurd (true≢false (sym some))
@@ -139,14 +114,7 @@ module _ (dig : List ℕ → List ℕ) (sealed : List (List Entry)) (tree : List
       → ((log : List RootCall) → Follows log ends.roots.items → (m : ℕ) → m < length ends.roots.items
       → tree_at dig log sealed (m + 1) ≡ tree_at dig log others (m + 1))
       → KeepsEnds dig others ends
-  ends-alike others keeps same = record {
-    each = λ coin end is. let one = keeps.each coin end is in record {
-      within = one.within;
-      placed = λ log follows. one.placed log follows
-          ∙ place-alike dig end.tag log log others sealed coin end.made end.upto
-          (λ m lt. same log follows m (omega (arith, lt, one.within)));
-    };
-  }
+  ends-alike others keeps same = grind (arith, common_steps, place-alike) steps 20000
 
   abbrev passes : List ℕ → List Entry → Bool
   passes root one = bytes_eq (root_of dig one) root
@@ -171,11 +139,7 @@ module _ (dig : List ℕ → List ℕ) (sealed : List (List Entry)) (tree : List
       by : (o : Option (List ℕ)) → o ≢ Some root
           → option_and_then (tree_of dig sealed) o ≡ option_and_then (tree_of dig (sealed ++ tree ∷ [])) o
       by None other = refl
-      by (Some one) other = elim (cases_Bool (bytes_eq (root_of dig tree) one)) [
-        | inl same ↦
-            absurd (other (ap (λ (r : List ℕ). Some r) (sym (is ∙ (bytes_eq-Decides (root_of dig tree) one).0 same))))
-        | inr isnt ↦ tree_of-stays one isnt
-      ]
+      by (Some one) other = grind (arith, common_steps, cases_Bool, bytes_eq-Decides, tree_of-stays) steps 20000
 
   pub ends-known : (root : List ℕ) → KeepsEnds dig sealed ends → root ≡ root_of dig tree
       → is_some (tree_of dig sealed root) ≡ true → KeepsEnds dig (sealed ++ tree ∷ []) ends
@@ -184,9 +148,5 @@ module _ (dig : List ℕ → List ℕ) (sealed : List (List Entry)) (tree : List
       by : (o : Option (List ℕ))
           → option_and_then (tree_of dig sealed) o ≡ option_and_then (tree_of dig (sealed ++ tree ∷ [])) o
       by None = refl
-      by (Some one) = elim (cases_Bool (bytes_eq (root_of dig tree) one)) [
-        | inl same ↦
-            tree_of-first one (ap (λ (r : List ℕ). is_some (tree_of dig sealed r))
-            (sym (is ∙ (bytes_eq-Decides (root_of dig tree) one).0 same)) ∙ some)
-        | inr isnt ↦ tree_of-stays one isnt
-      ]
+      by (Some one) =
+          grind (arith, common_steps, cases_Bool, tree_of-first, bytes_eq-Decides, tree_of-stays) steps 20000

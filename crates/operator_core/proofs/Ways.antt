@@ -1,20 +1,20 @@
 -- The committed blocks one after another.
-use Rattle.std.proofs.Common.{◌≡◌, ℕ, zero, suc, ◌+◌, ◌-◌, ◌<◌, ◌≤◌, ◌^◌, not, Bool, true, false, if◌then◌else◌, List, [], ◌∷◌, ◌++◌, length, filter, Option, Some, None, Result, Ok, Err, refl, sym, ap, ◌∙◌, inl, inr, arith, append-nil}
+use Rattle.std.proofs.Common.{◌≡◌, ℕ, zero, suc, ◌+◌, ◌-◌, ◌<◌, ◌≤◌, ◌^◌, not, Bool, true, false, if◌then◌else◌, List, [], ◌∷◌, ◌++◌, length, Option, Some, None, Result, Ok, Err, refl, sym, ap, ◌∙◌, inl, inr, arith, append-nil}
 use Rattle.std.specs.List.{range_with_len, All, AllPairs}
 use Rattle.std.specs.Option.{option_and_then}
 use Rattle.std.proofs.lemmas.List.{get_or-map, length-map}
 use Rattle.std.proofs.lemmas.List.FromFn.{length-range_with_len, get_or-range_with_len}
 use Rattle.std.proofs.lemmas.List.Filters.{length-filter_both}
 use Rattle.std.proofs.lemmas.List.Kept.{AllPairs-filter}
-use Rattle.std.specs.Prelude.{◌==◌, ◌&&◌, nat_lt, is_some, OnErr}
+use Rattle.std.specs.Prelude.{is_some, OnErr}
 use Rattle.std.proofs.lemmas.Bool.{cases_lt, cases_eq, lt-ltb, le-ltb, eq-eqb, ne_eqb, eqb-true, or_cases, or_right, and_parts}
 use Rattle.std.proofs.lemmas.List.Elements.{filter-append, All-nil, All-push}
+use Rattle.std.proofs.lemmas.Grind.{common_steps}
 use Rattle.sparse_merkle.specs.declared.tree.Entry.{Entry}
 use Rattle.sparse_merkle.specs.TreeDigest.{leaf_of}
 use Rattle.plasma_tx.specs.declared.opening.RawOpening.{RawOpening}
 use Rattle.plasma_tx.specs.declared.call.RootCall.{RootCall}
 use Rattle.plasma_tx.specs.declared.views.CoinView.{CoinView}
-use Rattle.plasma_tx.specs.declared.signed_tx.SignedTx.{SignedTx}
 use Rattle.plasma_tx.specs.Shown.{root_at}
 use Rattle.plasma_tx.specs.Transfer.{transfer_in}
 use Rattle.plasma_tx.specs.Views.{blocks}
@@ -23,7 +23,7 @@ use Rattle.coin_history.specs.Bundles.{AreRising}
 use Rattle.coin_history.specs.Checking.{may_be_tip}
 use Rattle.coin_history.proofs.HistoryGrow.{committed-le}
 use Rattle.operator_rules.specs.declared.refusal.ProveRefusal.{ProveRefusal}
-use Rattle.operator_rules.specs.Trees.{tree_at, tree_of, opening_in_tree}
+use Rattle.operator_rules.specs.Trees.{tree_at, tree_of}
 use Rattle.operator_rules.specs.Walk.{Place, start_of, moved_by, transfer_at, place_at, present}
 use Rattle.operator_rules.proofs.Places.{transfer_at-idle}
 use Rattle.operator_rules.specs.Commands.{prove_by, with_opening, openings_of, tip_asked}
@@ -47,9 +47,7 @@ module _ (dig : List ℕ → List ℕ) (tag : List ℕ) (log : List RootCall) (s
       → place_at dig tag log sealed coin made (n + 1)
       ≡ moved_by (n + 1) (place_at dig tag log sealed coin made n) (transfer_at dig tag log sealed coin (n + 1))
   unfolding place_at
-  place-next n le =
-      let e : n + 1 ≡ suc n = omega arith in
-      rw (e, lt-ltb made.deposit (suc n) (omega arith)) refl
+  place-next n le = grind (arith, common_steps, lt-ltb) steps 20000
 
   -- the place after the next block by what is found for its root
   pub place-rooted : (n : ℕ) (root : List ℕ) (tree : Option (List Entry)) (last : Place) → made.deposit ≤ n
@@ -57,44 +55,25 @@ module _ (dig : List ℕ → List ℕ) (tag : List ℕ) (log : List RootCall) (s
       → last ≡ place_at dig tag log sealed coin made n
       → moved_by (n + 1) last (option_and_then (λ tree. transfer_in tag coin (n + 1) (leaf_of tree coin)) tree)
       ≡ place_at dig tag log sealed coin made (n + 1)
-  place-rooted n root tree last le root_is tree_is last_is =
-      let transfer : Option (List ℕ) → Option SignedTx = λ r. option_and_then
-      (λ tree. transfer_in tag coin (n + 1) (leaf_of tree coin)) (option_and_then (tree_of dig sealed) r) in
-      ap (λ (found : Option (List Entry)). moved_by (n + 1) last (option_and_then
-      (λ tree. transfer_in tag coin (n + 1) (leaf_of tree coin)) found)) tree_is
-      ∙ ap (λ (place : Place). moved_by (n + 1) place (transfer (Some root))) last_is
-      ∙ ap (λ (r : Option (List ℕ)). moved_by (n + 1) (place_at dig tag log sealed coin made n) (transfer r))
-      (sym root_is)
-      ∙ sym (place-next n le)
+  place-rooted n root tree last le root_is tree_is last_is = grind (arith, common_steps, place-next) steps 20000
 
   -- and after one without a root
   pub place-idle : (n : ℕ) → made.deposit ≤ n → root_at log (n + 1) ≡ None
       → place_at dig tag log sealed coin made n ≡ place_at dig tag log sealed coin made (n + 1)
-  place-idle n le none =
-      sym (ap (moved_by (n + 1) (place_at dig tag log sealed coin made n))
-      (transfer_at-idle dig tag coin log sealed (n + 1) none)) ∙ sym (place-next n le)
+  place-idle n le none = grind (arith, common_steps, transfer_at-idle, place-next) steps 20000
 
   pub place-last : (n : ℕ) → made.deposit ≤ n → blocks log ≤ n → (made.deposit < n → n ≤ blocks log)
       → place_at dig tag log sealed coin made n ≡ present dig tag log sealed coin made
-  place-last n low high within = elim (cases_lt made.deposit n) [
-    | inl after ↦
-        ap (λ (k : ℕ). place_at dig tag log sealed coin made k)
-        (let last = within after in let e : n ≡ blocks log = omega arith in e)
-    | inr le ↦ place-early n le ∙ sym (place-early (blocks log) (omega arith))
-  ]
+  place-last n low high within = grind (arith, common_steps, cases_lt, place-early) steps 20000
 
 -- ---- committed blocks
 
 range-append : (start one other : ℕ)
     → range_with_len start (one + other) ≡ range_with_len start one ++ range_with_len (start + one) other
-range-append start zero other =
-    (λ i. range_with_len (let e : start ≡ start + 0 = omega arith in e i)
-    (let e : 0 + other ≡ other = omega arith in e i))
+range-append start zero other = grind (arith, common_steps) steps 20000
 range-append start (suc one) other =
     let e : suc one + other ≡ suc (one + other) = omega arith in
-    let f : start + 1 + one ≡ start + suc one = omega arith in
-    rw e (ap (λ (rest : List ℕ). start ∷ rest) (range-append (start + 1) one other
-    ∙ ap (λ (from : ℕ). range_with_len (start + 1) one ++ range_with_len from other) f))
+    grind (arith, common_steps, range-append (start + 1) one other) steps 20000
 
 module _ (log : List RootCall) where
   pub committed-split : (after middle last : ℕ) → after ≤ middle → middle ≤ last
@@ -102,26 +81,16 @@ module _ (log : List RootCall) where
   unfolding committed_blocks
   committed-split after middle last low high =
       let count : last - after ≡ (middle - after) + (last - middle) = omega arith in
-      let start : after + 1 + (middle - after) ≡ middle + 1 = omega arith in
-      ap (λ (n : ℕ). filter (is_committed log) (range_with_len (after + 1) n)) count
-      ∙ ap (λ (xs : List ℕ). filter (is_committed log) xs) (range-append (after + 1) (middle - after) (last - middle))
-      ∙ ap (λ (n : ℕ). filter (is_committed log) (range_with_len (after + 1) (middle - after)
-      ++ range_with_len n (last - middle))) start
-      ∙ filter-append (is_committed log) (range_with_len (after + 1) (middle - after))
-      (range_with_len (middle + 1) (last - middle))
+      grind (arith, common_steps, range-append, filter-append) steps 20000
 
   pub committed-none : (after last : ℕ) → last ≤ after → committed_blocks log after last ≡ []
   unfolding committed_blocks
-  committed-none after last le =
-      let none : last - after ≡ 0 = omega arith in
-      ap (λ (n : ℕ). filter (is_committed log) (range_with_len (after + 1) n)) none
+  committed-none after last le = grind (arith, common_steps) steps 20000
 
   pub committed-one : (n : ℕ)
       → committed_blocks log n (n + 1) ≡ (if is_committed log (n + 1) then (n + 1) ∷ [] else [])
   unfolding committed_blocks
-  committed-one n =
-      let one : n + 1 - n ≡ 1 = omega arith in
-      ap (λ (k : ℕ). filter (is_committed log) (range_with_len (n + 1) k)) one
+  committed-one n = grind (arith, common_steps) steps 20000
 
 -- ---- their openings
 
@@ -145,10 +114,7 @@ module _ (dig : List ℕ → List ℕ) (log : List RootCall) (sealed : List (Lis
 
   parts : (o : Result RawOpening ProveRefusal) (r : Result (List RawOpening) ProveRefusal) (openings : List RawOpening)
       → with_opening o r ≡ Ok openings → Parts o r openings
-  parts (Err why) r openings is = absurd (cc is)
-  parts (Ok first) (Err why) openings is = absurd (cc is)
-  parts (Ok first) (Ok rest) openings is =
-      record { first = first; rest = rest; first_is = refl; rest_is = refl; whole = cc is }
+  parts o r openings is = grind (arith, common_steps) steps 20000
 
   behind-none : (r : Result (List RawOpening) ProveRefusal) → r ≡ behind [] r
   behind-none (Err why) = refl
@@ -163,18 +129,10 @@ module _ (dig : List ℕ → List ℕ) (log : List RootCall) (sealed : List (Lis
       → openings_of dig log sealed coin ns ≡ Ok openings
       → openings_of dig log sealed coin (ns ++ ms) ≡ behind openings (openings_of dig log sealed coin ms)
   unfolding openings_of
-  openings-append [] ms openings is =
-      let e : [] ≡ openings = cc is in
-      behind-none (openings_of dig log sealed coin ms)
-      ∙ ap (λ (front : List RawOpening). behind front (openings_of dig log sealed coin ms)) e
+  openings-append [] ms openings is = grind (arith, common_steps, behind-none) steps 20000
   openings-append (n ∷ ns) ms openings is =
       let p = parts (opening_of n) (openings_of dig log sealed coin ns) openings is in
-      ap (λ (o : Result RawOpening ProveRefusal). with_opening o (openings_of dig log sealed coin
-      (ns ++ ms))) p.first_is
-      ∙ ap (λ (r : Result (List RawOpening) ProveRefusal). with_opening (Ok p.first) r)
-      (openings-append ns ms p.rest p.rest_is)
-      ∙ behind-more p.first p.rest (openings_of dig log sealed coin ms)
-      ∙ ap (λ (front : List RawOpening). behind front (openings_of dig log sealed coin ms)) p.whole
+      grind (arith, common_steps, openings-append ns ms p.rest p.rest_is, behind-more) steps 20000
 
   -- the openings of a block and of those behind it
   opening-front : (n : ℕ) (ns : List ℕ) → openings_of dig log sealed coin (n ∷ ns)
@@ -251,14 +209,8 @@ module _ (dig : List ℕ → List ℕ) (log : List RootCall) (sealed : List (Lis
       → (after < before → before ≤ last)
       → openings_of dig log sealed coin (committed_blocks log after before) ≡ Ok openings
       → openings_of dig log sealed coin (committed_blocks log after last) ≡ Ok openings
-  openings_last after before last openings low high within is = elim (cases_lt after before) [
-    | inl some ↦
-        (let most = within some in let e : last ≡ before = omega arith in
-        ap (λ (n : ℕ). all after n) e ∙ is)
-    | inr none ↦
-        (let e : before ≡ after = omega arith in
-        all-none after last (omega arith) ∙ sym (all-none after before (omega arith)) ∙ is)
-  ]
+  openings_last after before last openings low high within is =
+      grind (arith, common_steps, cases_lt, all-none) steps 20000
 
 pub ruleset openings_steps = (openings_none, openings_skip, openings_more, openings_fail, openings_last)
 
@@ -275,10 +227,7 @@ module _ (dig : List ℕ → List ℕ) (log : List RootCall) (sealed : List (Lis
       → first_is_known dig log sealed (ns ++ n ∷ ms) ≡ true
   unfolding openings_of
   first-known coin [] ms n openings is here = here
-  first-known coin (m ∷ ns) ms n openings is here =
-      let p = parts dig log sealed coin (prove_by dig coin m (tree_at dig log sealed m))
-      (openings_of dig log sealed coin ns) openings is in
-      known coin m (tree_at dig log sealed m) p.first p.first_is
+  first-known coin (m ∷ ns) ms n openings is here = grind (arith, common_steps, parts, known) steps 20000
 
   -- the committed blocks, with one of them apart
   around : (after before last : ℕ) → after ≤ before → before < last → is_committed log (before + 1) ≡ true
@@ -303,8 +252,7 @@ module _ (dig : List ℕ → List ℕ) (log : List RootCall) (sealed : List (Lis
 
   one-inside : (ns ms : List ℕ) → one_is_known dig log sealed ms ≡ true → one_is_known dig log sealed (ns ++ ms) ≡ true
   one-inside [] ms one = one
-  one-inside (n ∷ ns) ms one = or_right (is_known dig log sealed n) (one_is_known dig log sealed (ns ++ ms))
-      (one-inside ns ms one)
+  one-inside (n ∷ ns) ms one = grind (arith, common_steps, one-inside ns ms one, or_right) steps 20000
 
   one-first : (ns ms : List ℕ) → first_is_known dig log sealed ns ≡ true
       → one_is_known dig log sealed (ns ++ ms) ≡ true
@@ -317,9 +265,7 @@ module _ (dig : List ℕ → List ℕ) (log : List RootCall) (sealed : List (Lis
       → one_is_known dig log sealed (committed_blocks log after last) ≡ true
   walk_knows after before last root found low high root_is found_is some =
       let here : is_committed log (before + 1) ≡ true = ap (λ (r : Option (List ℕ)). is_some r) root_is in
-      let tree : is_known dig log sealed (before + 1) ≡ true =
-      ap (λ (r : Option (List ℕ)). is_some (option_and_then (tree_of dig sealed) r)) root_is
-      ∙ ap (λ (t : Option (List Entry)). is_some t) (sym found_is) ∙ some in
+      let tree : is_known dig log sealed (before + 1) ≡ true = grind (arith, common_steps) steps 20000 in
       ap (one_is_known dig log sealed) (around after before last low high here)
       ∙ one-inside (committed_blocks log after before) ((before + 1) ∷ committed_blocks log (before + 1) last)
       (rw tree refl)
@@ -330,17 +276,13 @@ module _ (dig : List ℕ → List ℕ) (log : List RootCall) (sealed : List (Lis
       → one_is_known dig log sealed (committed_blocks log deposit (blocks log)) ≡ true
   wide deposit asked may first = elim (cases_lt deposit asked) [
     | inl after ↦
-        (let tip : is_committed log asked ≡ true = elim (or_cases (asked == deposit)
-        (is_committed log asked && nat_lt deposit asked) may) [
-          | inl same ↦ (let e = eqb-true asked deposit same in absurd (omega (arith, e, after)))
-          | inr both ↦ (and_parts (is_committed log asked) (nat_lt deposit asked) both).0
-        ] in
+        (let tip : is_committed log asked ≡ true =
+        grind (arith, common_steps, or_cases, eqb-true, and_parts) steps 20000 in
         let within = committed-le log asked tip in
         ap (one_is_known dig log sealed) (committed-split log deposit asked (blocks log) (omega arith) within)
         ∙ one-first (committed_blocks log deposit asked) (committed_blocks log asked (blocks log)) first)
     | inr none ↦
-        (let e : first_is_known dig log sealed [] ≡ true =
-        ap (first_is_known dig log sealed) (sym (committed-none log deposit asked none)) ∙ first in absurd (cc e))
+        grind (arith, common_steps, committed-none) steps 20000
   ]
 
   pub begun_walking : (tip : ℕ) (made : CoinView) → tip ≡ 0
@@ -352,16 +294,8 @@ module _ (dig : List ℕ → List ℕ) (log : List RootCall) (sealed : List (Lis
       → may_be_tip log made.deposit asked ≡ true
       → first_is_known dig log sealed (committed_blocks log made.deposit asked) ≡ true
       → is_begun dig log sealed tip (Some made) ≡ true
-  begun tip asked place made is may first = elim (cases_eq tip 0) [
-    | inl none ↦ begun_walking tip made none (wide made.deposit asked may first)
-    | inr some ↦
-        (let e = ne_eqb tip 0 some in
-        let same : asked ≡ tip = is ∙ ap (λ (b : Bool). if b then place.block else tip) e in
-        let m : may_be_tip log made.deposit tip ≡ true = ap (may_be_tip log made.deposit) (sym same) ∙ may in
-        let f : first_is_known dig log sealed (committed_blocks log made.deposit tip) ≡ true =
-        ap (λ (n : ℕ). first_is_known dig log sealed (committed_blocks log made.deposit n)) (sym same) ∙ first in
-        rw (e, m, f) refl)
-  ]
+  begun tip asked place made is may first =
+      grind (arith, common_steps, cases_eq, begun_walking, wide, ne_eqb) steps 20000
 
 -- ---- openings are few, and short
 
@@ -385,16 +319,12 @@ pub ruleset lengths_more = (no_lengths, one_length)
 range-rises : (start count : ℕ) → AllPairs (λ earlier later. earlier < later) (range_with_len start count)
 range-rises start count i j d lt within =
     let long = length-range_with_len start count in
-    let one = get_or-range_with_len start count i d (omega (arith, long)) in
-    let other = get_or-range_with_len start count j d (omega (arith, long)) in
-    rw (one, other) (omega arith)
+    grind (arith, common_steps, get_or-range_with_len) steps 20000
 
 module _ (dig : List ℕ → List ℕ) (log : List RootCall) (sealed : List (List Entry)) (coin : ℕ) where
   opening-block : (n : ℕ) (tree : Option (List Entry)) (opening : RawOpening) → prove_by dig coin n tree ≡ Ok opening
       → opening.block ≡ n
-  opening-block n None opening is = absurd (cc is)
-  opening-block n (Some tree) opening is =
-      let e : opening_in_tree dig coin n tree ≡ opening = cc is in ap (λ (o : RawOpening). o.block) (sym e)
+  opening-block n tree opening is = grind (arith, common_steps) steps 20000
 
   blocks-are : (ns : List ℕ) (openings : List RawOpening) → openings_of dig log sealed coin ns ≡ Ok openings
       → blocks_of openings ≡ ns
