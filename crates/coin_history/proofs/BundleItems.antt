@@ -1,10 +1,11 @@
 -- The items of a bundle's bytes, one after another, and what is written of a bundle.
-use Rattle.std.proofs.Common.{◌≡◌, ℕ, suc, ◌+◌, ◌-◌, ◌<◌, ◌≤◌, List, [], ◌∷◌, ◌++◌, Option, Ok, Err, length, get_or, take, drop, refl, sym, ap, ◌∙◌, inl, inr, append_assoc, append-nil, arith}
+use Rattle.std.proofs.Common.{◌≡◌, ℕ, suc, ◌+◌, ◌-◌, ◌<◌, ◌≤◌, List, [], ◌∷◌, ◌++◌, Option, Ok, Err, length, get_or, take, drop, refl, sym, ap, ◌∙◌, inl, inr, arith}
 use Rattle.std.specs.Prelude.{◌⊎◌, true, is_ok, Result}
 use Rattle.std.specs.List.{slice_range, flat_map}
 use Rattle.std.specs.Option.{option_map_or}
 use Rattle.std.proofs.lemmas.Bool.{lt-ltb, le-ltb}
 use Rattle.std.proofs.lemmas.List.{take_at, take_more, take-append-drop, flat_map_more}
+use Rattle.std.proofs.lemmas.Grind.{common_steps}
 use Rattle.plasma_tx.specs.Spelling.{number_text, number_at}
 use Rattle.plasma_tx.specs.declared.opening.RawOpening.{RawOpening}
 use Rattle.coin_history.specs.declared.bundle.Bundle.{Bundle}
@@ -84,10 +85,7 @@ with_items-nil (Ok items) = refl
 
 with_items-with_item : (openings : List RawOpening) (opening : RawOpening) (read : Result Items HistoryRefusal)
     → with_items openings (with_item opening read) ≡ with_items (openings ++ opening ∷ []) read
-with_items-with_item openings opening (Err why) = refl
-with_items-with_item openings opening (Ok items) =
-    let joined = append_assoc openings (opening ∷ []) items.openings in
-    λ i. Ok (record { openings = sym joined i; place = items.place })
+with_items-with_item openings opening read = grind (arith, common_steps) steps 20000
 
 -- the first item at a place stands there whole
 abbrev pub IsFirstWhole : List ℕ → ℕ → Type 0
@@ -122,13 +120,7 @@ module _ (bytes : List ℕ) (place count : ℕ) where
         → HaveRead bytes place count now next (opening.block + 1) (count - (i + 1))
     HaveRead-more now opening next lt within pushed first = record {
       within = within;
-      rest =
-          let left = count - (i + 1) in
-          let e : count - i ≡ suc left = omega arith in
-          known.rest ∙ ap (λ n. with_items openings (items_in bytes end low n)) e
-          ∙ ap (with_items openings) (first left)
-          ∙ with_items-with_item openings opening (items_in bytes next (opening.block + 1) left)
-          ∙ ap (λ os. with_items os (items_in bytes next (opening.block + 1) left)) (sym pushed);
+      rest = grind (arith, common_steps, with_items-with_item) steps 20000;
       first = inr (first-whole bytes place end low next opening known.first first);
     }
 
@@ -145,16 +137,11 @@ module _ (bytes : List ℕ) (place count : ℕ) where
     HaveRead-refused why lt first =
         let left = count - (i + 1) in
         let e : count - i ≡ suc left = omega arith in
-        known.rest ∙ ap (λ n. with_items openings (items_in bytes end low n)) e
-        ∙ ap (with_items openings) (first left)
+        grind (arith, common_steps) steps 20000
 
     pub HaveRead-all : count ≤ i → items_in bytes place 0 count ≡ Ok (record { openings = openings; place = end })
     unfolding items_in
-    HaveRead-all le =
-        let e : count - i ≡ 0 = omega arith in
-        let nil = append-nil openings in
-        known.rest ∙ ap (λ n. with_items openings (items_in bytes end low n)) e
-        ∙ (λ j. Ok (record { openings = nil j; place = end }))
+    HaveRead-all le = grind (arith, common_steps) steps 20000
 
 -- ---- what is written
 
@@ -163,8 +150,7 @@ pub front_kept : (out now last more : List ℕ) → now ≡ out ++ more → take
     → take (length out) last ≡ out
 front_kept out now last more put kept =
     let rest = drop (length now) last in
-    let whole : last ≡ out ++ (more ++ rest) = sym (take-append-drop (length now) last)
-    ∙ ap (λ (l : List ℕ). l ++ rest) (kept ∙ put) ∙ append_assoc out more rest in
+    let whole : last ≡ out ++ (more ++ rest) = grind (arith, common_steps, take-append-drop) steps 20000 in
     ap (λ (l : List ℕ). take (length out) l) whole ∙ take_at out (more ++ rest) (length out) refl
 
 -- one more item
@@ -180,20 +166,11 @@ item_put out now new openings opening i lt is known put =
 -- the numbers that a bundle begins with
 pub header_put : (out one two three coin tip count : List ℕ) → one ≡ out ++ coin → two ≡ one ++ tip
     → three ≡ two ++ count → three ≡ out ++ (coin ++ tip ++ count)
-header_put out one two three coin tip count is_one is_two is_three =
-    rw (is_three, is_two, is_one) (joined coin tip)
-  where
-    joined : (a b : List ℕ) → out ++ a ++ b ++ count ≡ out ++ (a ++ b ++ count)
-    joined a b = simp append_assoc
+header_put out one two three coin tip count is_one is_two is_three = grind (arith, common_steps) steps 20000
 
 -- these numbers and the items
 pub bundle_put : (out now : List ℕ) (bundle : Bundle) (openings : List RawOpening) → openings ≡ bundle.openings
     → now ≡ out ++ (number_text bundle.coin ++ number_text bundle.tip ++ length_text (length openings))
     → now ++ flat_map item_text openings ≡ out ++ bundle_text bundle
 unfolding bundle_text
-bundle_put out now bundle openings same known =
-    let header : List ℕ = number_text bundle.coin ++ number_text bundle.tip ++ length_text (length openings) in
-    ap (λ (l : List ℕ). l ++ flat_map item_text openings) known
-    ∙ append_assoc out header (flat_map item_text openings)
-    ∙ ap (λ (os : List RawOpening). out ++ (number_text bundle.coin ++ number_text bundle.tip
-    ++ length_text (length os) ++ flat_map item_text os)) same
+bundle_put out now bundle openings same known = grind (arith, common_steps) steps 20000

@@ -1,12 +1,12 @@
 -- Bundles are read as they are written, and have one spelling.
 use Rattle.std.proofs.Common.{◌≡◌, ℕ, zero, suc, ◌+◌, ◌-◌, ◌^◌, ◌<◌, ◌≤◌, ◌==◌, List, [], ◌∷◌, ◌++◌, Ok, Err, length, get_or, take, drop, refl, sym, ap, ◌∙◌, inl, inr, append_assoc, append-nil, arith}
 use Rattle.std.specs.Prelude.{Result}
-use Rattle.std.specs.Int.{w32, from_be_bytes}
 use Rattle.std.specs.List.{All, slice_range, flat_map}
 use Rattle.std.proofs.lemmas.Bool.{cases_Bool, cases_lt, lt-ltb, le-ltb, eq-eqb, eqb-true}
 use Rattle.std.proofs.lemmas.List.{take_at, drop_at, take-append-drop, drop-drop, length-drop, length-append, drop_all}
-use Rattle.std.proofs.lemmas.List.Elements.{All-nil, All-cons, All-head, All-tail}
+use Rattle.std.proofs.lemmas.List.Elements.{All-cons, All-head, All-tail}
 use Rattle.std.proofs.lemmas.Nat.{from_be_bytes-to_be_bytes_4}
+use Rattle.std.proofs.lemmas.Grind.{common_steps}
 use Rattle.plasma_tx.proofs.Parts.{number-in, number-below, number-bytes, short_number-below, short_number-bytes, bytes-range, length-range}
 use Rattle.plasma_tx.specs.Spelling.{number_text, number_at, AreBytes}
 use Rattle.plasma_tx.specs.declared.opening.RawOpening.{RawOpening}
@@ -40,8 +40,7 @@ number_first xs rest place number small is =
 length_first : (xs rest : List ℕ) (place number : ℕ) → number < 2 ^ 32 → drop place xs ≡ length_text number ++ rest
     → length_at xs place ≡ number
 length_first xs rest place number small is =
-    ap (from_be_bytes w32) (part_at xs (length_text number) rest place (place + 4) is refl)
-    ∙ from_be_bytes-to_be_bytes_4 number small
+    grind (arith, common_steps, part_at, from_be_bytes-to_be_bytes_4) steps 20000
 
 -- ---- rising blocks
 
@@ -131,8 +130,7 @@ items_in-text : (bytes : List ℕ) (place low : ℕ) (openings : List RawOpening
     → items_in bytes place low (length openings) ≡ Ok (record { openings = openings; place = length bytes })
 items_in-text bytes place low [] within is fit =
     let none : length (drop place bytes) ≡ 0 = ap (λ (l : List ℕ). length l) is in
-    let end : place ≡ length bytes = omega (arith, length-drop place bytes) in
-    items_in-none bytes place low ∙ (λ i. Ok (record { openings = []; place = end i }))
+    grind (arith, common_steps, length-drop, items_in-none) steps 20000
 items_in-text bytes place low (opening ∷ openings) within is fit =
     let first = item_first bytes place opening (flat_map item_text openings)
     (All-head (λ o. o.block < 2 ^ 64) opening openings fit.blocks)
@@ -168,13 +166,7 @@ bundle_in-text bundle h =
     let counted : items_in bytes 20 0 (length_at bytes 16)
     ≡ Ok (record { openings = bundle.openings; place = length bytes }) =
     ap (λ n. items_in bytes 20 0 n) is_count ∙ read in
-    rw (
-      le-ltb (length bytes) 8 (omega arith),
-      le-ltb (length bytes) 16 (omega arith),
-      le-ltb (length bytes) 20 long,
-      counted,
-      eq-eqb (length bytes) (length bytes) refl,
-    ) (λ i. Ok (record { coin = is_coin i; tip = is_tip i; openings = bundle.openings }))
+    grind (arith, common_steps, le-ltb, eq-eqb) steps 20000
   where
     regroup : (a b c d : List ℕ) → a ++ b ++ c ++ d ≡ a ++ (b ++ (c ++ d))
     regroup a b c d = simp append_assoc
@@ -199,12 +191,7 @@ record IsFirstRead (bytes : List ℕ) (place low count : ℕ) (items : Items) : 
 with_item-ok : (opening : RawOpening) (read : Result Items HistoryRefusal) (items : Items)
     → with_item opening read ≡ Ok items
     → (later : Items) × (read ≡ Ok later) × (record later { openings = opening ∷ later.openings } ≡ items)
-with_item-ok opening (Err why) items h = absurd (cc h)
-with_item-ok opening (Ok later) items h = (
-  later,
-  refl,
-  ok_same (record later { openings = opening ∷ later.openings }) items (Ok items) (sym h) refl,
-)
+with_item-ok opening read items h = grind (arith, common_steps, ok_same) steps 20000
 
 items_in-suc : (bytes : List ℕ) (place low count : ℕ) (items : Items) → items_in bytes place low (suc count) ≡ Ok items
     → IsFirstRead bytes place low count items
@@ -253,12 +240,7 @@ pub items_in-ok : (bytes : List ℕ) (place low count : ℕ) (items : Items) →
 items_in-ok bytes place low zero items within h =
     let none = ok_same (record { openings = []; place = place }) items (Ok items)
     (sym h ∙ items_in-none bytes place low) refl in
-    rw (← none) (record {
-      counted = refl;
-      within = within;
-      above = All-nil (λ opening. low ≤ opening.block);
-      rising = λ i j d lt bound. absurd (omega arith);
-    })
+    grind (arith, common_steps) steps 20000
 items_in-ok bytes place low (suc count) items within h =
     let first = items_in-suc bytes place low count items h in
     let opening : RawOpening = record {
@@ -338,14 +320,7 @@ module _ (bytes : List ℕ) (small : AreBytes bytes) where
 
   pub items_in-spelled : (place low count : ℕ) (items : Items) → place ≤ length bytes
       → items_in bytes place low count ≡ Ok items → AreSpelled bytes place items
-  items_in-spelled place low zero items within h =
-      let none = ok_same (record { openings = []; place = place }) items (Ok items)
-      (sym h ∙ items_in-none bytes place low) refl in
-      rw (← none) (record {
-        text = refl;
-        blocks = All-nil (λ opening. opening.block < 2 ^ 64);
-        lengths = All-nil (λ opening. length opening.bytes < 2 ^ 32);
-      })
+  items_in-spelled place low zero items within h = grind (arith, common_steps, ok_same, items_in-none) steps 20000
   items_in-spelled place low (suc count) items within h =
       let first = items_in-suc bytes place low count items h in
       let long = length_at bytes (place + 8) in
@@ -400,26 +375,12 @@ bundle_in-ok bytes bundle h = elim (cases_lt (length bytes) 8) [
   | inl short ↦ let bad : Err (BadBundle 0) ≡ Ok bundle = rw (lt-ltb (length bytes) 8 short) at h in cc bad
   | inr coin ↦ elim (cases_lt (length bytes) 16) [
     | inl short ↦
-        let bad : Err (BadBundle 8) ≡ Ok bundle = rw (
-          le-ltb (length bytes) 8 coin,
-          lt-ltb (length bytes) 16 short,
-        ) at h in
-        cc bad
+        grind (arith, common_steps, le-ltb, lt-ltb) steps 20000
     | inr tip ↦ elim (cases_lt (length bytes) 20) [
       | inl short ↦
-          let bad : Err (BadBundle 16) ≡ Ok bundle = rw (
-            le-ltb (length bytes) 8 coin,
-            le-ltb (length bytes) 16 tip,
-            lt-ltb (length bytes) 20 short,
-          ) at h in
-          cc bad
+          grind (arith, common_steps, le-ltb, lt-ltb) steps 20000
       | inr long ↦
-          let read : bundle_of bytes (items_in bytes 20 0 (length_at bytes 16)) ≡ Ok bundle = rw (
-            le-ltb (length bytes) 8 coin,
-            le-ltb (length bytes) 16 tip,
-            le-ltb (length bytes) 20 long,
-          ) at h in
-          bundle_of-ok bytes bundle (items_in bytes 20 0 (length_at bytes 16)) long refl read
+          grind (arith, common_steps, le-ltb, bundle_of-ok) steps 20000
     ]
   ]
 ]

@@ -1,10 +1,11 @@
 -- An absence, opening by opening.
-use Rattle.std.proofs.Common.{◌≡◌, ℕ, ◌+◌, ◌<◌, ◌≤◌, ◌==◌, not, Bool, true, false, if◌then◌else◌, List, [], ◌∷◌, length, get_or, drop, Some, None, Ok, Err, refl, sym, ap, ◌∙◌, subst}
+use Rattle.std.proofs.Common.{◌≡◌, ℕ, ◌+◌, ◌<◌, ◌≤◌, ◌==◌, not, Bool, true, false, if◌then◌else◌, List, length, get_or, drop, Some, None, Ok, Err, refl, sym, subst, arith}
 use Rattle.std.specs.Prelude.{Result}
+use Rattle.std.proofs.lemmas.Grind.{common_steps}
 use Rattle.plasma_tx.specs.declared.call.RootCall.{RootCall}
 use Rattle.plasma_tx.specs.declared.opening.RawOpening.{RawOpening}
 use Rattle.plasma_tx.specs.Shown.{Tests}
-use Rattle.coin_history.specs.History.{leaf_of_opening, is_absent}
+use Rattle.coin_history.specs.History.{leaf_of_opening}
 use Rattle.coin_history.specs.declared.refusal.HistoryRefusal.{HistoryRefusal}
 use Rattle.coin_history.specs.declared.refusal.HistoryRefusal.TheVariants.{MissingBlock, NotAbsent}
 use Rattle.coin_history.specs.Bundles.{AreRising}
@@ -70,10 +71,7 @@ cleared-unopened {tests} {log} {coin} {after} {last} {openings} {items} {i} {num
     failing-next (failure_of_absence tests log coin after last) (is_asked log after last) (λ m. refl) openings
     items last tt i
     o number why (record { same = cleared.same; inside = inside; is = is }) cleared.passed none
-    (first-here (opening_causes tests log coin (is_asked log after last o.block) o)
-    ((not (is_absent o), NotAbsent o.block) ∷ []) why
-    (failed-some (first_cause (opening_causes tests log coin (is_asked log after last o.block) o)) (leaf_of_opening o)
-    why (sym fails)))
+    (grind (arith, common_steps, first-here, failed-some) steps 20000)
 
 -- what the opening fails by where it opens the root, by whether its leaf has bytes
 presence-opened : (tests : Tests) (log : List RootCall) (coin after last : ℕ) (o : RawOpening) (leaf : List ℕ)
@@ -85,10 +83,7 @@ presence-opened : (tests : Tests) (log : List RootCall) (coin after last : ℕ) 
 presence-opened tests log coin after last o leaf empty opens is =
     let read = failed-none (first_cause (opening_causes tests log coin (is_asked log after last o.block) o))
     (leaf_of_opening o) leaf (sym opens) in
-    first-later (opening_causes tests log coin (is_asked log after last o.block) o)
-    ((not (is_absent o), NotAbsent o.block) ∷ []) read.0
-    ∙ ap (λ (b : Bool). if not b then Some (NotAbsent o.block) else None)
-    (absent-from leaf o empty (sym read.1) is)
+    grind (arith, common_steps, first-later, absent-from) steps 20000
 
 -- the next opening opens the root to a leaf with bytes
 pub cleared-present : {tests : Tests} {log : List RootCall} {coin after last : ℕ} {openings items : List RawOpening}

@@ -1,18 +1,19 @@
 -- What the check of a bundle rests on: the blocks that are asked for, and the openings that were passed.
-use Rattle.std.proofs.Common.{◌≡◌, ℕ, zero, suc, ◌+◌, ◌<◌, ◌≤◌, ◌==◌, Bool, true, false, if◌then◌else◌, List, [], ◌∷◌, ◌++◌, length, get_or, drop, Option, Some, None, Ok, Err, inl, inr, refl, sym, ap, ◌∙◌, subst, arith}
-use Rattle.std.specs.Prelude.{is_some, nat_lt, slice_get, Result}
-use Rattle.std.specs.Option.{option_or, option_and_then}
+use Rattle.std.proofs.Common.{◌≡◌, ℕ, zero, suc, ◌+◌, ◌<◌, ◌≤◌, ◌==◌, Bool, true, false, List, [], ◌∷◌, ◌++◌, length, get_or, drop, Option, Some, None, Ok, Err, inl, inr, refl, sym, ap, ◌∙◌, subst, arith}
+use Rattle.std.specs.Prelude.{Result}
+use Rattle.std.specs.Option.{option_or}
 use Rattle.std.proofs.lemmas.List.{drop_more, drop_all}
 use Rattle.std.proofs.lemmas.Option.{slice_get_read}
 use Rattle.std.proofs.lemmas.Bool.{cases_eq, cases_lt, eq-eqb, ne_eqb, and_parts, false_from_ne_true}
+use Rattle.std.proofs.lemmas.Grind.{common_steps}
 use Rattle.plasma_tx.specs.declared.call.RootCall.{RootCall}
 use Rattle.plasma_tx.specs.declared.opening.RawOpening.{RawOpening}
 use Rattle.plasma_tx.specs.declared.views.BlockView.{BlockView}
 use Rattle.plasma_tx.specs.declared.views.CoinView.{CoinView}
 use Rattle.plasma_tx.specs.declared.call.RootCall.TheVariants.{Deposit, Commit}
-use Rattle.plasma_tx.specs.Views.{blocks, coins, block_at, coin_at, new_coin}
+use Rattle.plasma_tx.specs.Views.{blocks, coins, block_at, coin_at}
 use Rattle.plasma_tx.proofs.Names.{some_same}
-use Rattle.plasma_tx.specs.Shown.{Tests, Rules, root_in}
+use Rattle.plasma_tx.specs.Shown.{Tests, Rules}
 use Rattle.coin_history.specs.declared.bundle.Bundle.{Bundle}
 use Rattle.coin_history.specs.History.{is_committed, leaf_of_opening, is_empty, is_absent, links_in, tagged}
 use Rattle.coin_history.specs.declared.refusal.HistoryRefusal.{HistoryRefusal}
@@ -53,13 +54,7 @@ absent-from leaf opening b shown is = ap is_empty (sym shown) ∙ sym (empty-fro
 pub first-append : (causes others : List Cause)
     → first_cause (causes ++ others) ≡ option_or (first_cause causes) (first_cause others)
 first-append [] others = refl
-first-append (cause ∷ causes) others =
-    elim cause.0 as
-    (λ b. (if b then Some cause.1 else first_cause (causes ++ others))
-    ≡ option_or (if b then Some cause.1 else first_cause causes) (first_cause others)) [
-      | true ↦ refl
-      | false ↦ first-append causes others
-    ]
+first-append (cause ∷ causes) others = grind (arith, common_steps, first-append causes others) steps 20000
 
 pub first-here : (causes others : List Cause) (why : HistoryRefusal) → first_cause causes ≡ Some why
     → first_cause (causes ++ others) ≡ Some why
@@ -131,11 +126,7 @@ rest-at openings i o less is =
 module _ (failure : ℕ → Option RawOpening → Option HistoryRefusal) (asked : ℕ → Bool)
     (unopened : (n : ℕ) → failure n None ≡ missing (asked n) n) (openings : List RawOpening) where
   pub passed-start : AreRising openings → Passed failure openings openings 0
-  passed-start rising = record {
-    up = up-rising openings rising;
-    found = λ n le. refl;
-    clear = λ n less. absurd (omega arith);
-  }
+  passed-start rising = grind (arith, common_steps, up-rising) steps 20000
 
   unasked : (n : ℕ) → asked n ≡ false → failure n None ≡ None
   unasked n is = unopened n ∙ ap (λ (b : Bool). missing b n) is
@@ -143,10 +134,7 @@ module _ (failure : ℕ → Option RawOpening → Option HistoryRefusal) (asked 
   -- nothing fails below a number where the rest begins there or above, and none was asked between
   pub clear-below : (rest : List RawOpening) (passed to : ℕ) → Passed failure openings rest passed → Up to rest
       → NoneIsAsked asked passed to → (n : ℕ) → n < to → failure n (opening_at openings n) ≡ None
-  clear-below rest passed to are up none n less = elim (cases_lt n passed) [
-    | inl below ↦ are.clear n below
-    | inr more ↦ ap (failure n) (are.found n more ∙ below-none to rest up n less) ∙ unasked n (none n more less)
-  ]
+  clear-below rest passed to are up none n less = grind (arith, common_steps, cases_lt, below-none, unasked) steps 20000
 
   -- the first block that is asked and passed over is the lowest failure
   pub refused-missing : (rest : List RawOpening) (passed to n : ℕ) → Passed failure openings rest passed → Up to rest
@@ -154,8 +142,7 @@ module _ (failure : ℕ → Option RawOpening → Option HistoryRefusal) (asked 
       → lowest_failure (λ m. failure m (opening_at openings m)) top ≡ Some (MissingBlock n)
   refused-missing rest passed to n are up first top less =
       lowest-some_from (λ m. failure m (opening_at openings m)) top n (MissingBlock n) less
-      (ap (failure n) (are.found n first.low ∙ below-none to rest up n first.high) ∙ unopened n
-      ∙ ap (λ (b : Bool). missing b n) first.is)
+      (grind (arith, common_steps, below-none) steps 20000)
       (clear-below rest passed n are (up-weaker n to rest (omega (arith, first.high)) up) first.first)
 
   -- where the next opening fails, that is the lowest failure
@@ -177,9 +164,7 @@ module _ (failure : ℕ → Option RawOpening → Option HistoryRefusal) (asked 
     clear = λ n less. elim (cases_lt n o.block) [
       | inl below ↦ clear-below (o ∷ rest) passed o.block are (omega arith, are.up.1) none n below
       | inr more ↦
-          let e : o.block ≡ n = omega arith in
-          subst (λ (m : ℕ). failure m (opening_at openings m) ≡ None) e
-          (ap (failure o.block) (are.found o.block are.up.0 ∙ at-head o.block o rest refl) ∙ holds)
+          grind (arith, common_steps, at-head) steps 20000
     ];
   }
 
@@ -188,13 +173,7 @@ module _ (failure : ℕ → Option RawOpening → Option HistoryRefusal) (asked 
       → ((n : ℕ) → to ≤ n → asked n ≡ false) → (top : ℕ)
       → lowest_failure (λ m. failure m (opening_at openings m)) top ≡ None
   passed-all passed to are none behind top =
-      lowest-none_from (λ m. failure m (opening_at openings m)) top (λ n less. elim (cases_lt n to) [
-        | inl below ↦ clear-below [] passed to are tt none n below
-        | inr more ↦ elim (cases_lt n passed) [
-          | inl low ↦ are.clear n low
-          | inr high ↦ ap (failure n) (are.found n high) ∙ unasked n (behind n more)
-        ]
-      ])
+      grind (arith, common_steps, lowest-none_from, cases_lt, clear-below, unasked) steps 20000
 
 -- the opening at an index of what is gone over, which are these openings
 pub record IsAt (openings items : List RawOpening) (i : ℕ) (o : RawOpening) : Type 0 where
@@ -251,8 +230,7 @@ module _ (failure : ℕ → Option RawOpening → Option HistoryRefusal) (asked 
       record {
         place = i;
         opening = o;
-        is = subst (λ (xs : List RawOpening). slice_get xs i ≡ Some o) at.same
-            (slice_get_read items (length items) i o refl at.inside at.is);
+        is = grind (arith, common_steps, slice_get_read) steps 20000;
         asked = is;
         clear = clear-below failure asked unopened openings (o ∷ drop (i + 1) items) passed o.block here
             (omega arith, here.up.1) none;
@@ -307,8 +285,7 @@ deposit-made : (log : List RootCall) (coin : ℕ) (made : CoinView) → coin_at 
 unfolding coin_at blocks
 deposit-made [] coin made is = absurd (cc is)
 deposit-made (Deposit account amount key ∷ log) coin made is = elim (cases_eq coin (coins log + 1)) [
-  | inl e ↦ subst (λ (x : CoinView). x.deposit ≤ blocks log + 1)
-      (some_same (new_coin log account amount key) made (simp (eq-eqb coin (coins log + 1) e) at is)) (omega arith)
+  | inl e ↦ grind (arith, common_steps, some_same, eq-eqb) steps 20000
   | inr apart ↦
       let below = deposit-made log coin made (simp (ne_eqb coin (coins log + 1) apart) at is) in omega (arith, below)
 ]
@@ -317,21 +294,13 @@ deposit-made (Commit account root ∷ log) coin made is =
 deposit-made (call ∷ log) coin made is = deposit-made log coin made is
 
 committed-made : (log : List RootCall) (n : ℕ) → is_committed log n ≡ true → n ≤ blocks log
-committed-made log n is =
-    (elim (block_at log n) as (λ view. block_at log n ≡ view → is_some (option_and_then root_in view) ≡ true
-    → n ≤ blocks log) [
-      | None ↦ λ none wrong. absurd (cc wrong)
-      | Some view ↦ λ some committed. block-made log n view some
-    ]) refl is
+committed-made log n is = grind (arith, common_steps, block-made) steps 20000
 
 -- a tip that may be one is a block of the log
 pub tip-made : (log : List RootCall) (coin tip : ℕ) (made : CoinView) → coin_at log coin ≡ Some made
     → may_be_tip log made.deposit tip ≡ true → tip ≤ blocks log
-tip-made log coin tip made is may = elim (cases_eq tip made.deposit) [
-  | inl e ↦ omega (arith, deposit-made log coin made is)
-  | inr apart ↦ committed-made log tip
-      (and_parts (is_committed log tip) (nat_lt made.deposit tip) (simp (ne_eqb tip made.deposit apart) at may)).0
-]
+tip-made log coin tip made is may =
+    grind (arith, common_steps, cases_eq, deposit-made, committed-made, and_parts, ne_eqb) steps 20000
 
 -- of the rules the tag alone matters
 pub tagged-same : (tests : Tests) (rules : Rules) (log : List RootCall) (bundle : Bundle)
@@ -342,15 +311,4 @@ tagged-same tests rules log bundle = refl
 pub tagged-looks : (tests : Tests) (rules : Rules) (log : List RootCall) (bundle : Bundle)
     → LooksAtHistory tests (tagged rules.tag) log bundle → LooksAtHistory tests rules log bundle
 unfolding links_in
-tagged-looks tests rules log bundle is = record {
-  made = is.made;
-  coin = is.coin;
-  tip = is.tip;
-  looks = record {
-    place = is.looks.place;
-    opening = is.looks.opening;
-    is = is.looks.is;
-    asked = is.looks.asked;
-    clear = is.looks.clear;
-  };
-}
+tagged-looks tests rules log bundle is = grind (arith, common_steps) steps 20000

@@ -1,11 +1,11 @@
 -- The links of openings that were passed, and what the next opening fails by.
-use Rattle.std.proofs.Common.{◌≡◌, ℕ, suc, ◌+◌, ◌<◌, ◌≤◌, ◌==◌, Bool, true, false, if◌then◌else◌, List, [], ◌∷◌, ◌++◌, length, get_or, drop, Option, Some, None, Ok, Err, refl, sym, ap, ◌∙◌, subst, filter, append_assoc, arith}
+use Rattle.std.proofs.Common.{◌≡◌, ℕ, suc, ◌+◌, ◌<◌, ◌≤◌, ◌==◌, Bool, true, false, if◌then◌else◌, List, [], ◌∷◌, ◌++◌, length, get_or, drop, Option, Some, None, Ok, Err, refl, sym, ap, ◌∙◌, subst, filter, arith}
 use Rattle.std.specs.Prelude.{nat_lt, Result}
 use Rattle.std.specs.Option.{option_or, option_map, option_to_list}
-use Rattle.std.specs.List.{cons_option}
 use Rattle.std.proofs.lemmas.List.{drop_all, append-nil}
 use Rattle.std.proofs.lemmas.List.Elements.{filter-append}
 use Rattle.std.proofs.lemmas.Bool.{lt-ltb, le-ltb}
+use Rattle.std.proofs.lemmas.Grind.{common_steps}
 use Rattle.plasma_tx.specs.declared.call.RootCall.{RootCall}
 use Rattle.plasma_tx.specs.declared.opening.RawOpening.{RawOpening}
 use Rattle.plasma_tx.specs.declared.signed_tx.SignedTx.{SignedTx}
@@ -46,27 +46,13 @@ collected-start rules coin openings = record { all = refl; before = λ n le. ref
 links-cons : (rules : Rules) (coin : ℕ) (o : RawOpening) (rest : List RawOpening)
     → links_in rules coin (o ∷ rest) ≡ option_to_list (link_of rules coin o) ++ links_in rules coin rest
 unfolding links_in
-links-cons rules coin o rest =
-    elim (link_of rules coin o) as
-    (λ l. cons_option l (links_in rules coin rest) ≡ option_to_list l ++ links_in rules coin rest) [
-      | None ↦ refl
-      | Some link ↦ refl
-    ]
+links-cons rules coin o rest = grind (arith, common_steps) steps 20000
 
 -- of a link that an opening shows, the ones before a number are all where the opening is before it, else none
 filter-of : (rules : Rules) (coin n : ℕ) (o : RawOpening) (b : Bool) → nat_lt o.block n ≡ b
     → filter (is_before n) (option_to_list (link_of rules coin o))
     ≡ (if b then option_to_list (link_of rules coin o) else [])
-filter-of rules coin n o b is =
-    elim (transfer_of rules coin o) as
-    (λ t. filter (is_before n)
-    (option_to_list (option_map (λ tx. record { block = o.block; tx = tx; opening = o }) t))
-    ≡ (if b then option_to_list (option_map (λ tx. record { block = o.block; tx = tx; opening = o }) t) else [])) [
-      | None ↦ (elim b as (λ x. ◌≡◌ {A = List Link} [] (if x then [] else [])) [ true ↦ refl | false ↦ refl ])
-      | Some tx ↦
-          let link : Link = record { block = o.block; tx = tx; opening = o } in
-          ap (λ (x : Bool). if x then link ∷ [] else []) is
-    ]
+filter-of rules coin n o b is = grind (arith, common_steps) steps 20000
 
 -- links of openings at a block or above are none of those before it
 later-none : (rules : Rules) (coin n low : ℕ) (rest : List RawOpening) → n ≤ low → Up low rest
@@ -85,33 +71,15 @@ pub collected-next : (rules : Rules) (coin : ℕ) (openings : List RawOpening) (
     (rest : List RawOpening) (passed : ℕ) (spends : List Link)
     → Collected rules coin openings (o ∷ rest) passed spends → passed ≤ o.block
     → Collected rules coin openings rest (o.block + 1) (spends ++ option_to_list (link_of rules coin o))
-collected-next rules coin openings o rest passed spends are le = record {
-  all = are.all ∙ ap (λ (xs : List Link). spends ++ xs) (links-cons rules coin o rest)
-      ∙ sym (append_assoc spends (option_to_list (link_of rules coin o)) (links_in rules coin rest));
-  before = λ n more.
-      let is-before : nat_lt o.block n ≡ true = lt-ltb o.block n (omega arith) in
-      are.before n (omega arith)
-      ∙ ap (λ (xs : List Link). spends ++ xs)
-      (ap (filter (is_before n)) (links-cons rules coin o rest)
-      ∙ filter-append (is_before n) (option_to_list (link_of rules coin o))
-      (links_in rules coin rest)
-      ∙ ap (λ (xs : List Link). xs ++ filter (is_before n) (links_in rules coin rest))
-      (filter-of rules coin n o true is-before))
-      ∙ sym (append_assoc spends (option_to_list (link_of rules coin o))
-      (filter (is_before n) (links_in rules coin rest)));
-}
+collected-next rules coin openings o rest passed spends are le =
+    grind (arith, common_steps, links-cons, lt-ltb, filter-append, filter-of) steps 20000
 
 -- the links before the next opening's block are the spends
 pub links-at : (rules : Rules) (made : CoinView) (bundle : Bundle) (o : RawOpening) (rest : List RawOpening)
     (passed : ℕ) (spends : List Link) → Collected rules bundle.coin bundle.openings (o ∷ rest) passed spends
     → Up passed (o ∷ rest)
     → links_before o.block (links_of rules made bundle) ≡ links_with bundle.coin made spends
-links-at rules made bundle o rest passed spends are up =
-    ap (links_with bundle.coin made)
-    (are.before o.block up.0
-    ∙ ap (λ (xs : List Link). spends ++ xs)
-    (later-none rules bundle.coin o.block o.block (o ∷ rest) (omega arith) (omega arith, up.1))
-    ∙ append-nil spends)
+links-at rules made bundle o rest passed spends are up = grind (arith, common_steps, later-none, append-nil) steps 20000
 
 -- what the next opening fails by, after the spends before it
 pub failure-at : (tests : Tests) (rules : Rules) (log : List RootCall) (made : CoinView) (bundle : Bundle)
@@ -139,11 +107,7 @@ next_of tests rules tip before opening =
 module _ (tests : Tests) (rules : Rules) (tip : ℕ) (before : Links) (opening : RawOpening) where
   pub next-absent : is_absent opening ≡ true → (opening.block == tip) ≡ false
       → next_of tests rules tip before opening ≡ Ok None
-  next-absent is other =
-      let none : transfer_of rules before.coin opening ≡ None =
-      ap (transfer_in rules.tag before.coin opening.block) (empty-is (leaf_of_opening opening) is)
-      ∙ empty-none rules.tag before.coin opening.block in
-      rw (is, other) (ap Ok none)
+  next-absent is other = grind (arith, common_steps, empty-is, empty-none) steps 20000
 
   pub next-apart : is_absent opening ≡ false → spends (tip_of before) (transfer_of rules before.coin opening) ≡ false
       → next_of tests rules tip before opening ≡ Err (NotLink opening.block)
@@ -163,10 +127,7 @@ module _ (tests : Tests) (rules : Rules) (tip : ℕ) (before : Links) (opening :
 pub transfer-from : (rules : Rules) (coin : ℕ) (opening : RawOpening) (tag leaf : List ℕ) (read : Option SignedTx)
     (tx : SignedTx) → tag ≡ rules.tag → leaf ≡ leaf_of_opening opening
     → read ≡ transfer_in tag coin opening.block leaf → read ≡ Some tx → transfer_of rules coin opening ≡ Some tx
-transfer-from rules coin opening tag leaf read tx tag-is leaf-is read-is some =
-    let same : transfer_in tag coin opening.block leaf ≡ transfer_of rules coin opening =
-    λ i. transfer_in (tag-is i) coin opening.block (leaf-is i) in
-    sym same ∙ sym read-is ∙ some
+transfer-from rules coin opening tag leaf read tx tag-is leaf-is read-is some = grind (arith, common_steps) steps 20000
 
 -- ---- the next opening of a history
 
@@ -229,10 +190,7 @@ pub collected-all : (rules : Rules) (made : CoinView) (bundle : Bundle) (items :
     → links_with bundle.coin made spends ≡ links_of rules made bundle
 unfolding links_in
 collected-all rules made bundle items i passed spends long are =
-    let past : Collected rules bundle.coin bundle.openings [] passed spends =
-    subst (λ (rest : List RawOpening). Collected rules bundle.coin bundle.openings rest passed spends)
-    (drop_all i items long) are in
-    ap (links_with bundle.coin made) (sym (past.all ∙ append-nil spends))
+    grind (arith, common_steps, drop_all, append-nil) steps 20000
 
 -- ---- a history, opening by opening
 
@@ -264,9 +222,7 @@ walked-start tests rules log made bundle items spends rising same none = record 
       bundle.openings xs 0) (sym same)
       (passed-start (failure_in tests rules log bundle.tip (links_of rules made bundle))
       (is_asked log made.deposit bundle.tip) (λ n. refl) bundle.openings rising);
-  collected = subst (λ (xs : List RawOpening). Collected rules bundle.coin bundle.openings xs 0 spends) (sym same)
-      (subst (λ (xs : List Link). Collected rules bundle.coin bundle.openings bundle.openings 0 xs) (sym none)
-      (collected-start rules bundle.coin bundle.openings));
+  collected = grind (arith, common_steps, collected-start) steps 20000;
 }
 
 -- a block before the next opening is asked

@@ -1,7 +1,8 @@
 -- Bytes that spell a bundle with an opening have a first item.
-use Rattle.std.proofs.Common.{◌≡◌, ◌≢◌, ℕ, zero, suc, ◌+◌, ◌<◌, ◌≤◌, ◌==◌, Bool, true, false, if◌then◌else◌, List, [], ◌∷◌, length, Option, Result, Ok, Err, refl, sym, ap, ◌∙◌, subst, arith}
-use Rattle.std.specs.Prelude.{nat_lt, is_ok, slice_get, slice_range, Some}
+use Rattle.std.proofs.Common.{◌≡◌, ◌≢◌, ℕ, zero, suc, ◌+◌, ◌≤◌, ◌==◌, Bool, true, false, if◌then◌else◌, List, [], length, Option, Result, Ok, Err, refl, sym, ◌∙◌, arith}
+use Rattle.std.specs.Prelude.{nat_lt, is_ok, slice_range}
 use Rattle.std.proofs.lemmas.Bool.{ltb-false}
+use Rattle.std.proofs.lemmas.Grind.{common_steps}
 use Rattle.plasma_tx.specs.declared.opening.RawOpening.{RawOpening}
 use Rattle.plasma_tx.specs.Spelling.{number_at}
 use Rattle.coin_history.specs.declared.bundle.Bundle.{Bundle}
@@ -17,11 +18,7 @@ ok-too : (a b c d : Bool) (one two three four : HistoryRefusal) (items : Items)
     ≡ Ok items
     → is_ok (if a then Err one else if b then Err two else if c then Err three else if d then Err four else other)
     ≡ true
-ok-too true b c d one two three four items further other fine is = absurd (cc is)
-ok-too false true c d one two three four items further other fine is = absurd (cc is)
-ok-too false false true d one two three four items further other fine is = absurd (cc is)
-ok-too false false false true one two three four items further other fine is = absurd (cc is)
-ok-too false false false false one two three four items further other fine is = fine
+ok-too a b c d one two three four items further other fine is = grind (arith, common_steps) steps 20000
 
 first-whole : (bytes : List ℕ) (place low count : ℕ) (items : Items)
     → items_in bytes place low (suc count) ≡ Ok items → is_ok (items_in bytes place low 1) ≡ true
@@ -40,13 +37,7 @@ first-whole bytes place low count items is =
 counted-items : (bytes : List ℕ) (count : ℕ) (items : Items) → items_in bytes 20 0 count ≡ Ok items
     → items.openings ≢ [] → (1 ≤ count) × (is_ok (items_in bytes 20 0 1) ≡ true)
 unfolding items_in
-counted-items bytes zero items is some =
-    absurd (some (ok-openings is))
-  where
-    ok-openings : {one : Items}
-        → ◌≡◌ {A = Result Items HistoryRefusal} (Ok (record { openings = []; place = 20 })) (Ok one)
-        → one.openings ≡ []
-    ok-openings e = cc e
+counted-items bytes zero items is some = grind (arith, common_steps) steps 20000
 counted-items bytes (suc count) items is some = (omega arith, first-whole bytes 20 0 count items is)
 
 items-of : (bytes : List ℕ) (read : Result Items HistoryRefusal) (bundle : Bundle) → bundle_of bytes read ≡ Ok bundle
@@ -89,6 +80,4 @@ has-first_item bytes bundle is some =
 -- a bundle of which an opening is looked at has one
 pub looked-some : {asks : ℕ → Bool} {failure : ℕ → Option HistoryRefusal} (openings : List RawOpening)
     → IsLookedAt asks failure openings → openings ≢ []
-looked-some openings looks none =
-    let gone : slice_get [] looks.place ≡ Some looks.opening =
-    subst (λ (os : List RawOpening). slice_get os looks.place ≡ Some looks.opening) none looks.is in cc gone
+looked-some openings looks none = grind (arith, common_steps) steps 20000

@@ -1,16 +1,16 @@
 -- The check passes a bundle exactly where it shows that its coin is absent.
-use Rattle.std.proofs.Common.{◌≡◌, ℕ, ◌<◌, ◌==◌, not, Bool, true, false, if◌then◌else◌, List, [], ◌∷◌, ◌++◌, Option, Some, None, Err, refl, sym, ap, ◌∙◌, subst, arith}
+use Rattle.std.proofs.Common.{◌≡◌, ℕ, ◌<◌, ◌==◌, Bool, true, false, List, [], ◌∷◌, Some, None, refl, sym, ap, ◌∙◌, subst, arith}
 use Rattle.std.specs.List.{AllByRecursion}
 use Rattle.std.proofs.lemmas.Bool.{eqb-true, eq-eqb, true≢false, false_from_ne_true, not-false}
-use Rattle.std.proofs.lemmas.List.Elements.{recursion_from_All, All-from_recursion}
+use Rattle.std.proofs.lemmas.List.Elements.{recursion_from_All}
+use Rattle.std.proofs.lemmas.Grind.{common_steps}
 use Rattle.plasma_tx.specs.declared.opening.RawOpening.{RawOpening}
 use Rattle.plasma_tx.specs.declared.call.RootCall.{RootCall}
 use Rattle.plasma_tx.specs.Shown.{Tests}
-use Rattle.coin_history.specs.declared.refusal.HistoryRefusal.{HistoryRefusal}
-use Rattle.coin_history.specs.declared.refusal.HistoryRefusal.TheVariants.{UnknownBlock, NotAbsent}
+use Rattle.coin_history.specs.declared.refusal.HistoryRefusal.TheVariants.{UnknownBlock}
 use Rattle.coin_history.specs.Bundles.{AreRising}
 use Rattle.coin_history.specs.History.{opens_block, is_absent}
-use Rattle.coin_history.specs.Checking.{is_asked, opening_at, missing, opening_causes, lowest_failure, above, unless_failed, failure_of_absence, absence_of}
+use Rattle.coin_history.specs.Checking.{is_asked, opening_at, missing, lowest_failure, above, failure_of_absence, absence_of}
 use Rattle.coin_history.specs.Laws.{OnlyAbsencesPass, AbsencesPass}
 use Rattle.coin_history.proofs.HistoryOpenings.{lowest-none, lowest-none_from, up-rising, each-found, found-each, above-block, found-below, asked-parts, AreAsked, are-asked, blocks-from_asked, asked-from_blocks, found-block}
 use Rattle.coin_history.proofs.HistoryLinks.{every-weaker}
@@ -27,21 +27,11 @@ pub record IsAbsentRight (tests : Tests) (log : List RootCall) (coin after last 
 module _ (tests : Tests) (log : List RootCall) (coin after last : ℕ) where
   pub absent-from_none : (o : RawOpening) → failure_of_absence tests log coin after last o.block (Some o) ≡ None
       → IsAbsentRight tests log coin after last o
-  absent-from_none o is =
-      let all = causes-none (opening_causes tests log coin (is_asked log after last o.block) o
-      ++ (not (is_absent o), NotAbsent o.block) ∷ []) is in
-      record {
-        asked = not-false (is_asked log after last o.block) all.0;
-        opens = not-false (opens_block tests log coin o) all.1.0;
-        absent = not-false (is_absent o) all.1.1.0;
-      }
+  absent-from_none o is = grind (arith, common_steps, causes-none, not-false) steps 20000
 
   pub none-from_absent : (o : RawOpening) → IsAbsentRight tests log coin after last o
       → failure_of_absence tests log coin after last o.block (Some o) ≡ None
-  none-from_absent o right =
-      none-causes (opening_causes tests log coin (is_asked log after last o.block) o
-      ++ (not (is_absent o), NotAbsent o.block) ∷ [])
-      (ap not right.asked, (ap not right.opens, (ap not right.absent, tt)))
+  none-from_absent o right = grind (arith, common_steps, none-causes) steps 20000
 
 module _ (tests : Tests) (log : List RootCall) (coin after last : ℕ) (openings : List RawOpening) where
   pub absent-each : AreRising openings
@@ -65,11 +55,7 @@ module _ (tests : Tests) (log : List RootCall) (coin after last : ℕ) (openings
       let asked = every-weaker (IsAbsentRight tests log coin after last) (λ o. is_asked log after last o.block ≡ true)
       (λ o is. is.asked) openings (absent-each rising none) in
       are-asked log after last openings rising asked
-      (λ n absent. false_from_ne_true (is_asked log after last n)
-      (λ is. let parts = asked-parts log after last n is in
-      true≢false (sym is ∙ missing-none (is_asked log after last n) n
-      (ap (failure_of_absence tests log coin after last n) (sym absent)
-      ∙ none n (omega (arith, parts.2, above-block last openings))))))
+      (grind (arith, common_steps, false_from_ne_true, asked-parts, true≢false, missing-none, above-block) steps 20000)
 
   -- where each opening is right, and each block without one isn't asked, nothing fails
   pub none-present : AllByRecursion (IsAbsentRight tests log coin after last) openings
@@ -81,8 +67,7 @@ module _ (tests : Tests) (log : List RootCall) (coin after last : ℕ) (openings
         | None ↦ λ absent. ap (λ (b : Bool). missing b n) (other n absent)
         | Some x ↦ λ found.
             let r = found-each (IsAbsentRight tests log coin after last) openings n x right found in
-            subst (λ (k : ℕ). failure_of_absence tests log coin after last k (Some x) ≡ None) r.0
-            (none-from_absent tests log coin after last x r.1)
+            grind (arith, common_steps, none-from_absent) steps 20000
       ]) refl
 
 every-absent : (tests : Tests) (log : List RootCall) (coin after last : ℕ) (os : List RawOpening)
@@ -91,10 +76,8 @@ every-absent : (tests : Tests) (log : List RootCall) (coin after last : ℕ) (os
     → AllByRecursion (λ o. is_absent o ≡ true) os
     → AllByRecursion (IsAbsentRight tests log coin after last) os
 every-absent tests log coin after last [] asked opens absent = tt
-every-absent tests log coin after last (o ∷ os) asked opens absent = (
-  record { asked = asked.0; opens = opens.0; absent = absent.0 },
-  every-absent tests log coin after last os asked.1 opens.1 absent.1,
-)
+every-absent tests log coin after last (o ∷ os) asked opens absent =
+    grind (arith, common_steps, every-absent tests log coin after last os asked.1 opens.1 absent.1) steps 20000
 
 pub absences_are_found : OnlyAbsencesPass
 unfolding absence_of
@@ -108,12 +91,8 @@ absences_are_found tests log after last bundle rising is =
       record {
         blocks = blocks-from_asked log after last bundle.openings
             (absent-asked tests log bundle.coin after last bundle.openings rising none);
-        opened = All-from_recursion (λ o. opens_block tests log bundle.coin o ≡ true) bundle.openings
-            (every-weaker (IsAbsentRight tests log bundle.coin after last)
-            (λ o. opens_block tests log bundle.coin o ≡ true) (λ o r. r.opens) bundle.openings right);
-        empty = All-from_recursion (λ o. is_absent o ≡ true) bundle.openings
-            (every-weaker (IsAbsentRight tests log bundle.coin after last) (λ o. is_absent o ≡ true)
-            (λ o r. r.absent) bundle.openings right);
+        opened = grind (arith, common_steps, every-weaker) steps 20000;
+        empty = grind (arith, common_steps, every-weaker) steps 20000;
       },
     )
 
@@ -127,6 +106,4 @@ absences_pass tests log after last bundle e is =
     (recursion_from_All (λ o. is_absent o ≡ true) bundle.openings is.empty) in
     let none = lowest-none_from failures (above last bundle.openings)
     (λ n less. none-present tests log bundle.coin after last bundle.openings right asked.other n) in
-    ap (λ (b : Bool). if b then unless_failed (lowest_failure failures (above last bundle.openings)) tt
-    else Err (UnknownBlock bundle.tip)) (eq-eqb bundle.tip last e)
-    ∙ ap (λ (o : Option HistoryRefusal). unless_failed o tt) none
+    grind (arith, common_steps, eq-eqb) steps 20000

@@ -7,12 +7,12 @@ use Rattle.std.specs.List.{AllByRecursion, cons_option, Contains}
 use Rattle.std.proofs.lemmas.Bool.{true≢false, and_parts, ltb-true, leb-true}
 use Rattle.std.proofs.lemmas.List.Elements.{recursion_from_All, All-from_recursion, All-filter, All-contains_itself}
 use Rattle.std.proofs.lemmas.Slice.Eq.{bytes_eq-Decides}
+use Rattle.std.proofs.lemmas.Grind.{common_steps}
 use Rattle.plasma_tx.specs.declared.opening.RawOpening.{RawOpening}
 use Rattle.plasma_tx.specs.declared.signed_tx.SignedTx.{SignedTx}
 use Rattle.plasma_tx.specs.declared.links.Link.{Link}
 use Rattle.plasma_tx.specs.declared.links.Links.{Links}
 use Rattle.plasma_tx.specs.declared.call.RootCall.{RootCall}
-use Rattle.plasma_tx.specs.Transfer.{transfer_in}
 use Rattle.plasma_tx.specs.Views.{coin_at}
 use Rattle.plasma_tx.proofs.Names.{some_same}
 use Rattle.plasma_tx.specs.Shown.{Tests, Rules, root_at}
@@ -48,9 +48,7 @@ module _ (tests : Tests) (log : List RootCall) (coin : ℕ) where
   -- an opening opens the root of its block
   root-opened : (block : ℕ) (o : RawOpening) → o.block ≡ block → opens_block tests log coin o ≡ true
       → (root : List ℕ) → root_at log block ≡ Some root → tests.opens root coin o ≡ true
-  root-opened block o at is root has =
-      ap (λ (r : Option (List ℕ)). option_map_or (λ root. tests.opens root coin o) r false)
-      (sym (ap (root_at log) at ∙ has)) ∙ is
+  root-opened block o at is root has = grind (arith, common_steps) steps 20000
 
   -- openings of one block to different leaves, one of each list
   two-leaves : (o x : RawOpening) (os xs : List RawOpening) → Contains os o → Contains xs x → o.block ≡ x.block
@@ -171,9 +169,7 @@ module _ (tests : Tests) (log : List RootCall) (coin : ℕ) where
             | true ↦ λ inside. (elim (is_absent o) as (λ a. is_absent o ≡ a
                 → AllByRecursion IsOutside (links_in rules coin (o ∷ os))
                 ⊎ ShowTwoLeaves tests log coin (o ∷ os) openings) [
-                  | true ↦ λ absent. inl (subst (λ (t : Option SignedTx).
-                      AllByRecursion IsOutside (cons_option (option_map (with_tx o) t) (links_in rules coin os)))
-                      (sym (absent-none rules coin o absent)) rest)
+                  | true ↦ λ absent. inl (grind (arith, common_steps, with_tx, absent-none) steps 20000)
                   | false ↦ λ there. inr (beside o (o ∷ os) (first-in o os) ours.0 opens.0 there inside)
                 ]) refl
           ]) refl
@@ -202,41 +198,20 @@ module _ (rules : Rules) (coin : ℕ) where
       let leaf : leaf_of_opening o ≡ leaf_of_opening x = cc in
       let more : blocks_of os ≡ blocks_of xs = cc in
       let further : map leaf_of_opening os ≡ map leaf_of_opening xs = cc in
-      let rest = same-links os xs more further in
-      let tx : transfer_of rules coin o ≡ transfer_of rules coin x = λ i. transfer_in rules.tag coin (at i) (leaf i) in
-      ap (λ (t : Option SignedTx). map block_and_tx (cons_option (option_map (with_tx o) t)
-      (links_in rules coin os))) tx
-      ∙ same-link o x (transfer_of rules coin x) (links_in rules coin os) (links_in rules coin xs) at rest
+      grind (arith, common_steps, same-links os xs more further, with_tx, same-link) steps 20000
 
   -- the links up to a block are those of the openings up to it
   one-within : (k : ℕ) (o : RawOpening) (t : Option SignedTx) (links : List Link)
       → filter (λ link. nat_le link.block k) (cons_option (option_map (with_tx o) t) links)
       ≡ (if nat_le o.block k then cons_option (option_map (with_tx o) t) (filter (λ link. nat_le link.block k) links)
       else filter (λ link. nat_le link.block k) links)
-  one-within k o None links =
-      elim (nat_le o.block k) as (λ b. filter (λ (link : Link). nat_le link.block k) links
-      ≡ (if b then filter (λ (link : Link). nat_le link.block k) links
-      else filter (λ (link : Link). nat_le link.block k) links)) [
-        | true ↦ refl
-        | false ↦ refl
-      ]
-  one-within k o (Some tx) links = refl
+  one-within k o t links = grind (arith, common_steps) steps 20000
 
   pub kept-links : (k : ℕ) (os : List RawOpening)
       → filter (λ link. nat_le link.block k) (links_in rules coin os) ≡ links_in rules coin (within k os)
   unfolding links_in
   kept-links k [] = refl
-  kept-links k (o ∷ os) =
-      one-within k o (transfer_of rules coin o) (links_in rules coin os)
-      ∙ ap (λ (l : List Link). if nat_le o.block k
-      then cons_option (option_map (with_tx o) (transfer_of rules coin o)) l else l) (kept-links k os)
-      ∙ (elim (nat_le o.block k) as (λ b. (if b
-      then cons_option (option_map (with_tx o) (transfer_of rules coin o)) (links_in rules coin (within k os))
-      else links_in rules coin (within k os))
-      ≡ links_in rules coin (if b then o ∷ within k os else within k os)) [
-        | true ↦ refl
-        | false ↦ refl
-      ])
+  kept-links k (o ∷ os) = grind (arith, common_steps, kept-links k os, one-within, with_tx, within) steps 20000
 
 -- ---- the laws
 
@@ -246,9 +221,8 @@ histories_agree tests rules log bundle other links others one two coin le =
     let near = within bundle.tip other.openings in
     let asked = asked-from_blocks log one.made.deposit other.tip other.openings
     (two.blocks ∙ ap (λ (m : CoinView). committed_blocks log m.deposit other.tip) (sym made)) in
-    let blocks : blocks_of bundle.openings ≡ blocks_of near = one.blocks
-    ∙ sym (blocks-from_asked log one.made.deposit bundle.tip near
-    (asked-within log one.made.deposit other.tip bundle.tip other.openings le asked)) in
+    let blocks : blocks_of bundle.openings ≡ blocks_of near =
+    grind (arith, common_steps, blocks-from_asked, asked-within) steps 20000 in
     let opened = recursion_from_All (λ o. opens_block tests log other.coin o ≡ true) near
     (All-filter (λ o. nat_le o.block bundle.tip) (λ o. opens_block tests log other.coin o ≡ true)
     other.openings two.opened) in
@@ -277,7 +251,6 @@ absences_exclude_links tests rules log bundle links after last openings is absen
     (recursion_from_All (λ o. is_absent o ≡ true) openings absent.empty) bundle.openings ours.each
     (recursion_from_All (λ o. opens_block tests log bundle.coin o ≡ true) bundle.openings is.opened)) [
       | inl out ↦ inl (All-from_recursion (λ link. (nat_lt after link.block && nat_le link.block last) ≡ false)
-          links.spends (subst (λ (l : Links). AllByRecursion
-          (λ link. (nat_lt after link.block && nat_le link.block last) ≡ false) l.spends) (sym is.shown) out))
+          links.spends (grind (arith, common_steps) steps 20000))
       | inr shown ↦ inr shown
     ]

@@ -1,15 +1,15 @@
 -- Below the lowest block at which a bundle fails it is as a history is.
-use Rattle.std.proofs.Common.{◌≡◌, ℕ, suc, ◌+◌, ◌-◌, ◌<◌, ◌≤◌, ◌==◌, ◌&&◌, ◌||◌, not, Bool, true, false, if◌then◌else◌, List, [], ◌∷◌, map, length, Option, Some, None, Err, refl, sym, ap, ◌∙◌, subst, filter, arith}
-use Rattle.std.specs.Prelude.{is_some, nat_lt, slice_get}
+use Rattle.std.proofs.Common.{◌≡◌, ℕ, suc, ◌+◌, ◌-◌, ◌<◌, ◌≤◌, ◌&&◌, not, Bool, true, false, if◌then◌else◌, List, [], ◌∷◌, map, length, Option, Some, None, Err, refl, sym, ap, ◌∙◌, subst, filter, arith}
+use Rattle.std.specs.Prelude.{nat_lt, slice_get}
 use Rattle.std.specs.Option.{option_map, option_map_or}
-use Rattle.std.specs.List.{AllByRecursion, cons_option, range_with_len}
+use Rattle.std.specs.List.{AllByRecursion, range_with_len}
 use Rattle.std.proofs.lemmas.Bool.{and_parts, and_from, lt-ltb, ltb-true, ltb-false, true≢false, false_from_ne_true}
 use Rattle.std.proofs.lemmas.List.{length-map}
 use Rattle.std.proofs.lemmas.List.Elements.{All-from_recursion}
 use Rattle.std.proofs.lemmas.Option.{slice_get-map}
+use Rattle.std.proofs.lemmas.Grind.{common_steps}
 use Rattle.plasma_tx.specs.declared.owner.Owner.{Owner}
 use Rattle.plasma_tx.specs.declared.opening.RawOpening.{RawOpening}
-use Rattle.plasma_tx.specs.declared.signed_tx.SignedTx.{SignedTx}
 use Rattle.plasma_tx.specs.declared.links.Link.{Link}
 use Rattle.plasma_tx.specs.declared.links.Links.{Links}
 use Rattle.plasma_tx.specs.declared.call.RootCall.{RootCall}
@@ -19,10 +19,9 @@ use Rattle.plasma_tx.specs.Shown.{Tests, Rules}
 use Rattle.plasma_tx.proofs.Leaves.{recipient-named}
 use Rattle.coin_history.specs.declared.bundle.Bundle.{Bundle}
 use Rattle.coin_history.specs.declared.refusal.HistoryRefusal.{HistoryRefusal}
-use Rattle.coin_history.specs.declared.refusal.HistoryRefusal.TheVariants.{UnknownBlock}
 use Rattle.coin_history.specs.Bundles.{AreRising}
-use Rattle.coin_history.specs.History.{is_committed, committed_blocks, blocks_of, opens_block, leaf_of_opening, is_absent, transfer_of, links_in, links_of, AreLinked}
-use Rattle.coin_history.specs.Checking.{is_asked, opening_at, links_before, failure_in, lowest_failure, above, unless_failed, may_be_tip, checked, where_made, history_of}
+use Rattle.coin_history.specs.History.{is_committed, committed_blocks, blocks_of, is_absent, links_in, links_of, AreLinked}
+use Rattle.coin_history.specs.Checking.{is_asked, opening_at, links_before, failure_in, above, unless_failed, checked, history_of}
 use Rattle.coin_history.specs.Laws.{openings_before, last_shown, FailsFirstAt, RefusalsComeBehindLinks}
 use Rattle.coin_history.proofs.HistoryOpenings.{lowest-some, Up, up-rising, up-weaker, past-head, each-found, found-block, asked-parts, asked-from, AreOf, blocks-from_are}
 use Rattle.coin_history.proofs.HistoryLinks.{every-weaker, with_tx, absent-none, IsLeaf, IsNext, linked}
@@ -34,33 +33,17 @@ use Rattle.coin_history.proofs.HistoryFound.{IsRight, right-from_none, missing-n
 every-before : (P : RawOpening → Type 0) (n : ℕ) (os : List RawOpening)
     → AllByRecursion (λ o. o.block < n → P o) os → AllByRecursion P (openings_before n os)
 every-before P n [] all = tt
-every-before P n (o ∷ os) all =
-    (elim (nat_lt o.block n) as (λ b. nat_lt o.block n ≡ b
-    → AllByRecursion P (if b then o ∷ openings_before n os else openings_before n os)) [
-      | true ↦ λ kept. (all.0 (ltb-true o.block n kept), every-before P n os all.1)
-      | false ↦ λ out. every-before P n os all.1
-    ]) refl
+every-before P n (o ∷ os) all = grind (arith, common_steps, every-before P n os all.1, ltb-true) steps 20000
 
 up-before : (n low : ℕ) (os : List RawOpening) → Up low os → Up low (openings_before n os)
 up-before n low [] up = tt
-up-before n low (o ∷ os) up =
-    elim (nat_lt o.block n) as (λ b. Up low (if b then o ∷ openings_before n os else openings_before n os)) [
-      | true ↦ (up.0, up-before n (suc o.block) os up.1)
-      | false ↦
-          up-weaker low (suc o.block) (openings_before n os) (omega (arith, up.0))
-          (up-before n (suc o.block) os up.1)
-    ]
+up-before n low (o ∷ os) up = grind (arith, common_steps, up-before n (suc o.block) os up.1, up, up-weaker) steps 20000
 
 -- the opening of a block before n is the same
 opening-before : (n m : ℕ) (os : List RawOpening) → m < n → opening_at (openings_before n os) m ≡ opening_at os m
 opening-before n m [] less = refl
 opening-before n m (o ∷ os) less =
-    (elim (nat_lt o.block n) as (λ b. nat_lt o.block n ≡ b
-    → opening_at (if b then o ∷ openings_before n os else openings_before n os) m ≡ opening_at (o ∷ os) m) [
-      | true ↦ λ kept. ap (λ (r : Option RawOpening). if o.block == m then Some o else r) (opening-before n m os less)
-      | false ↦ λ out. opening-before n m os less
-          ∙ sym (past-head m o os (λ e. omega (arith, ltb-false o.block n out)))
-    ]) refl
+    grind (arith, common_steps, opening-before n m os less, past-head, ltb-false) steps 20000
 
 -- the links before n are those of the openings before n
 links-of_before : (rules : Rules) (coin n : ℕ) (os : List RawOpening)
@@ -68,39 +51,7 @@ links-of_before : (rules : Rules) (coin n : ℕ) (os : List RawOpening)
 unfolding links_in
 links-of_before rules coin n [] = refl
 links-of_before rules coin n (o ∷ os) =
-    let rest = links-of_before rules coin n os in
-    (elim (transfer_of rules coin o) as (λ t. transfer_of rules coin o ≡ t
-    → filter (λ link. nat_lt link.block n) (cons_option (option_map (with_tx o) t) (links_in rules coin os))
-    ≡ links_in rules coin (openings_before n (o ∷ os))) [
-      | None ↦ λ none. rest ∙ sym (skipped none)
-      | Some tx ↦ λ some. taken tx some rest
-    ]) refl
-  where
-    skipped : transfer_of rules coin o ≡ None
-        → links_in rules coin (openings_before n (o ∷ os)) ≡ links_in rules coin (openings_before n os)
-    skipped none =
-        elim (nat_lt o.block n) as (λ b. links_in rules coin
-        (if b then o ∷ openings_before n os else openings_before n os)
-        ≡ links_in rules coin (openings_before n os)) [
-          | true ↦ ap (λ (t : Option SignedTx). cons_option (option_map (with_tx o) t)
-              (links_in rules coin (openings_before n os))) none
-          | false ↦ refl
-        ]
-
-    taken : (tx : SignedTx) → transfer_of rules coin o ≡ Some tx
-        → filter (λ link. nat_lt link.block n) (links_in rules coin os) ≡ links_in rules coin (openings_before n os)
-        → filter (λ link. nat_lt link.block n) (with_tx o tx ∷ links_in rules coin os)
-        ≡ links_in rules coin (openings_before n (o ∷ os))
-    taken tx some rest =
-        elim (nat_lt o.block n) as (λ b.
-        (if b then with_tx o tx ∷ filter (λ (link : Link). nat_lt link.block n) (links_in rules coin os)
-        else filter (λ (link : Link). nat_lt link.block n) (links_in rules coin os))
-        ≡ links_in rules coin (if b then o ∷ openings_before n os else openings_before n os)) [
-          | true ↦ ap (λ (l : List Link). with_tx o tx ∷ l) rest
-              ∙ sym (ap (λ (t : Option SignedTx). cons_option (option_map (with_tx o) t)
-              (links_in rules coin (openings_before n os))) some)
-          | false ↦ rest
-        ]
+    grind (arith, common_steps, links-of_before rules coin n os, with_tx) steps 20000
 
 -- the links before a block before n, of those before n
 before-lower : (m n : ℕ) (links : List Link) → m ≤ n
@@ -108,28 +59,12 @@ before-lower : (m n : ℕ) (links : List Link) → m ≤ n
     ≡ filter (λ link. nat_lt link.block m) links
 before-lower m n [] le = refl
 before-lower m n (link ∷ links) le =
-    let rest = before-lower m n links le in
-    (elim (nat_lt link.block n) as (λ b. nat_lt link.block n ≡ b
-    → filter (λ (l : Link). nat_lt l.block m) (if b then link ∷ filter (λ (l : Link). nat_lt l.block n) links
-    else filter (λ (l : Link). nat_lt l.block n) links)
-    ≡ filter (λ (l : Link). nat_lt l.block m) (link ∷ links)) [
-      | true ↦ λ kept. ap (λ (ls : List Link). if nat_lt link.block m then link ∷ ls else ls) rest
-      | false ↦ λ out.
-          let high : nat_lt link.block m ≡ false = false_from_ne_true (nat_lt link.block m)
-          (λ is. omega (arith, ltb-true link.block m is, ltb-false link.block n out)) in
-          rest ∙ sym (ap (λ (b : Bool). if b then link ∷ filter (λ (l : Link). nat_lt l.block m) links
-          else filter (λ (l : Link). nat_lt l.block m) links) high)
-    ]) refl
+    grind (arith, common_steps, before-lower m n links le, false_from_ne_true, ltb-true, ltb-false) steps 20000
 
 -- of numbers that pass those that pass another test too
 filter-both : (p q : ℕ → Bool) (ns : List ℕ) → filter (λ n. p n && q n) ns ≡ filter q (filter p ns)
 filter-both p q [] = refl
-filter-both p q (n ∷ ns) =
-    elim (p n) as (λ b. (if b && q n then n ∷ filter (λ m. p m && q m) ns else filter (λ m. p m && q m) ns)
-    ≡ filter q (if b then n ∷ filter p ns else filter p ns)) [
-      | true ↦ ap (λ (ms : List ℕ). if q n then n ∷ ms else ms) (filter-both p q ns)
-      | false ↦ filter-both p q ns
-    ]
+filter-both p q (n ∷ ns) = grind (arith, common_steps, filter-both p q ns) steps 20000
 
 -- ---- the last link
 
@@ -150,20 +85,15 @@ links-filled : (rules : Rules) (coin : ℕ) (os : List RawOpening) → AllByRecu
 unfolding links_in
 links-filled rules coin [] all = refl
 links-filled rules coin (o ∷ os) all =
-    filled-one (is_absent o) (transfer_of rules coin o) (absent-none rules coin o) all.0
-    (λ tx some. sym (recipient-named rules.tag (leaf_of_opening o) coin o.block tx some))
-    (links-filled rules coin os all.1)
-  where
-    filled-one : (a : Bool) (t : Option SignedTx) → (a ≡ true → t ≡ None) → (a || is_some t) ≡ true
-        → ((tx : SignedTx) → t ≡ Some tx → tx.body.to ≡ owner_of_opening o)
-        → map of_link (links_in rules coin os) ≡ map of_opening (filled os)
-        → map of_link (cons_option (option_map (with_tx o) t) (links_in rules coin os))
-        ≡ map of_opening (if not a then o ∷ filled os else filled os)
-    filled-one true None absent leaf named rest = rest
-    filled-one true (Some tx) absent leaf named rest = absurd (cc (absent refl))
-    filled-one false None absent leaf named rest = absurd (true≢false (sym leaf))
-    filled-one false (Some tx) absent leaf named rest =
-        let to = named tx refl in λ i. (o.block, to i) ∷ rest i
+    grind (
+      arith,
+      common_steps,
+      links-filled rules coin os all.1,
+      absent-none,
+      recipient-named,
+      with_tx,
+      true≢false,
+    ) steps 20000
 
 -- the last of two lists that show the same
 last-same : {X Y Z : Type 0} (f : X → Z) (g : Y → Z) (xs : List X) (ys : List Y) → map f xs ≡ map g ys
@@ -211,8 +141,7 @@ module _ (tests : Tests) (rules : Rules) (log : List RootCall) (bundle : Bundle)
       (λ m o found less.
       let at = found-block bundle.openings m o found in
       right-from_none tests rules log bundle.tip own o
-      (subst (λ (k : ℕ). failure_in tests rules log bundle.tip own k (Some o) ≡ None) (sym at)
-      (ap (failure_in tests rules log bundle.tip own m) (sym found) ∙ none m (omega (arith, at, less))))))
+      (grind (arith, common_steps) steps 20000)))
 
   front-low : AllByRecursion (λ o. o.block < n) front
   front-low = every-before (λ o. o.block < n) n bundle.openings (each bundle.openings)
@@ -227,9 +156,7 @@ module _ (tests : Tests) (rules : Rules) (log : List RootCall) (bundle : Bundle)
 
   next-one : (o : RawOpening) → IsRight tests rules log bundle.tip own o → o.block < n
       → IsNext tests rules bundle.tip (links_before o.block (links_before n own)) o
-  next-one o is less =
-      subst (λ (spends : List Link). IsNext tests rules bundle.tip (record own { spends = spends }) o)
-      (sym (before-lower o.block n own.spends (omega arith))) is.next
+  next-one o is less = grind (arith, common_steps, before-lower) steps 20000
 
   both : {X : Type 0} (P Q R : X → Type 0) (xs : List X) → ((x : X) → P x → Q x → R x) → AllByRecursion P xs
       → AllByRecursion Q xs → AllByRecursion R xs
@@ -246,9 +173,7 @@ module _ (tests : Tests) (rules : Rules) (log : List RootCall) (bundle : Bundle)
 
   -- a block before n is asked exactly where it has an opening
   unopened : (m : ℕ) → m < n → opening_at bundle.openings m ≡ None → is_asked log made.deposit bundle.tip m ≡ false
-  unopened m less absent =
-      missing-none (is_asked log made.deposit bundle.tip m) m
-      (ap (failure_in tests rules log bundle.tip own m) (sym absent) ∙ none m less)
+  unopened m less absent = grind (arith, common_steps, missing-none) steps 20000
 
   -- the committed blocks that are before n
   abbrev is_low : ℕ → Bool
@@ -257,21 +182,13 @@ module _ (tests : Tests) (rules : Rules) (log : List RootCall) (bundle : Bundle)
   are-low : AreOf is_low (made.deposit + 1) (bundle.tip - made.deposit) front
   are-low = record {
     up = higher 0 front (up-before n 0 bundle.openings up)
-        (every-weaker (IsRight tests rules log bundle.tip own) (λ o. made.deposit + 1 ≤ o.block)
-        (λ o is. let parts = asked-parts log made.deposit bundle.tip o.block is.asked in omega (arith, parts.1))
-        front right);
+        (grind (arith, common_steps, every-weaker, asked-parts, right) steps 20000);
     each = both (IsRight tests rules log bundle.tip own) (λ o. o.block < n)
         (λ o. (is_low o.block ≡ true) × (o.block < (made.deposit + 1) + (bundle.tip - made.deposit))) front
-        (λ o is less. let parts = asked-parts log made.deposit bundle.tip o.block is.asked in (
-          and_from (is_committed log o.block) (nat_lt o.block n) parts.0 (lt-ltb o.block n less),
-          omega (arith, parts.1, parts.2),
-        )) right front-low;
+        (grind (arith, common_steps, asked-parts, and_from, lt-ltb) steps 20000) right front-low;
     other = λ m absent low high. false_from_ne_true (is_low m) (λ is.
         let parts = and_parts (is_committed log m) (nat_lt m n) is in
-        let less = ltb-true m n parts.1 in
-        true≢false (sym (asked-from log made.deposit bundle.tip m parts.0 (omega (arith, low))
-        (omega (arith, low, high)))
-        ∙ unopened m less (sym (opening-before n m bundle.openings less) ∙ absent)));
+        grind (arith, common_steps, ltb-true, true≢false, asked-from, unopened, opening-before) steps 20000);
   }
     where
       higher : (low : ℕ) (os : List RawOpening) → Up low os → AllByRecursion (λ o. made.deposit + 1 ≤ o.block) os
@@ -297,9 +214,7 @@ module _ (tests : Tests) (rules : Rules) (log : List RootCall) (bundle : Bundle)
     fails = fails;
     lowest = none;
     blocks = blocks-are;
-    opened = All-from_recursion (λ o. opens_block tests log bundle.coin o ≡ true) front
-        (every-weaker (IsRight tests rules log bundle.tip own) (λ o. opens_block tests log bundle.coin o ≡ true)
-        (λ o is. is.opens) front right);
+    opened = grind (arith, common_steps, every-weaker, right) steps 20000;
     leaves = All-from_recursion (IsLeaf rules bundle.coin) front linked-front.0;
     shown = ap (λ (spends : List Link). record own { spends = spends }) spends-are;
     linked = subst (AreLinked tests made.deposit made.owner) (sym spends-are) linked-front.1;
@@ -320,10 +235,7 @@ unfolding history_of
 refusals-behind tests rules log bundle made why rising coin may is =
     let own : Links = links_of rules made bundle in
     let failures = λ (m : ℕ). failure_in tests rules log bundle.tip own m (opening_at bundle.openings m) in
-    let found : checked tests rules log bundle own ≡ Err why =
-    sym (ap (λ (o : Option CoinView). where_made o (λ m. checked tests rules log bundle (links_of rules m bundle)))
-    coin) ∙ is in
+    let found : checked tests rules log bundle own ≡ Err why = grind (arith, common_steps) steps 20000 in
     let low = lowest-some failures (above bundle.tip bundle.openings) why
-    (refused-may (may_be_tip log made.deposit bundle.tip)
-    (lowest_failure failures (above bundle.tip bundle.openings)) own (UnknownBlock bundle.tip) why may found) in
+    (grind (arith, common_steps, refused-may) steps 20000) in
     (low.block, fails-first tests rules log bundle made low.block rising low.first why low.fails)

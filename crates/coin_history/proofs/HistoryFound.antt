@@ -1,9 +1,10 @@
 -- The check answers a bundle its links exactly where it is a history with these links.
-use Rattle.std.proofs.Common.{◌≡◌, ℕ, suc, ◌<◌, ◌≤◌, ◌==◌, ◌&&◌, not, Bool, true, false, if◌then◌else◌, List, [], ◌∷◌, ◌++◌, Option, Some, None, Ok, Err, inl, inr, refl, sym, ap, ◌∙◌, subst, arith, filter}
-use Rattle.std.specs.Prelude.{is_some, nat_lt, ◌||◌}
+use Rattle.std.proofs.Common.{◌≡◌, ℕ, suc, ◌<◌, ◌==◌, ◌&&◌, not, Bool, true, false, if◌then◌else◌, List, [], ◌∷◌, ◌++◌, Option, Some, None, Ok, Err, inl, inr, refl, sym, ap, ◌∙◌, subst, arith, filter}
+use Rattle.std.specs.Prelude.{nat_lt, ◌||◌}
 use Rattle.std.specs.List.{AllByRecursion}
 use Rattle.std.proofs.lemmas.Bool.{eqb-true, eq-eqb, and_from, or_cases, or_right, lt-ltb, le-leb, true≢false, false_from_ne_true, not-false}
 use Rattle.std.proofs.lemmas.List.Elements.{recursion_from_All, All-from_recursion}
+use Rattle.std.proofs.lemmas.Grind.{common_steps}
 use Rattle.plasma_tx.specs.declared.opening.RawOpening.{RawOpening}
 use Rattle.plasma_tx.specs.declared.signed_tx.SignedTx.{SignedTx}
 use Rattle.plasma_tx.specs.declared.links.Link.{Link}
@@ -16,10 +17,9 @@ use Rattle.plasma_tx.proofs.Names.{some_same}
 use Rattle.plasma_tx.specs.Shown.{Tests, Rules, spends}
 use Rattle.coin_history.specs.declared.bundle.Bundle.{Bundle}
 use Rattle.coin_history.specs.declared.refusal.HistoryRefusal.{HistoryRefusal}
-use Rattle.coin_history.specs.declared.refusal.HistoryRefusal.TheVariants.{UnknownBlock}
 use Rattle.coin_history.specs.Bundles.{AreRising}
 use Rattle.coin_history.specs.History.{is_committed, opens_block, is_absent, transfer_of, links_in, links_of, AreLinked, IsHistory}
-use Rattle.coin_history.specs.Checking.{Cause, first_cause, is_asked, opening_at, missing, opening_causes, links_before, is_next, is_next_signed, link_causes, failure_in, lowest_failure, above, unless_failed, may_be_tip, checked, where_made, history_of}
+use Rattle.coin_history.specs.Checking.{Cause, first_cause, is_asked, opening_at, missing, opening_causes, links_before, link_causes, failure_in, lowest_failure, above, unless_failed, may_be_tip, checked, history_of}
 use Rattle.coin_history.specs.Laws.{OnlyHistoriesPass, HistoriesPass}
 use Rattle.coin_history.proofs.HistoryOpenings.{Up, opening-own, lowest-none, lowest-none_from, Up, up-rising, up-each, each-found, found-each, above-block, found-below, asked-parts, AreAsked, are-asked, nothing-asked, blocks-from_asked, asked-from_blocks, found-block, rising-up}
 use Rattle.coin_history.proofs.HistoryLinks.{links_before-front, every-weaker, tip_from, tip-is, absent-none, none-linked, IsLeaf, IsNext, IsSome, linked, are-next, tip-reached, tip-found}
@@ -52,21 +52,11 @@ pub right-from_none : (tests : Tests) (rules : Rules) (log : List RootCall) (tip
 right-from_none tests rules log tip links o is =
     let all = causes-none (opening_causes tests log links.coin (is_asked log links.deposit tip o.block) o
     ++ link_causes tests rules tip (links_before o.block links) o) is in
-    record {
-      asked = not-false (is_asked log links.deposit tip o.block) all.0;
-      opens = not-false (opens_block tests log links.coin o) all.1.0;
-      next = (
-        not-false (is_next rules tip (links_before o.block links) o) all.1.1.0,
-        not-false (is_next_signed tests rules (links_before o.block links) o) all.1.1.1.0,
-      );
-    }
+    grind (arith, common_steps, not-false) steps 20000
 
 pub none-from_right : (tests : Tests) (rules : Rules) (log : List RootCall) (tip : ℕ) (links : Links) (o : RawOpening)
     → IsRight tests rules log tip links o → failure_in tests rules log tip links o.block (Some o) ≡ None
-none-from_right tests rules log tip links o right =
-    none-causes (opening_causes tests log links.coin (is_asked log links.deposit tip o.block) o
-    ++ link_causes tests rules tip (links_before o.block links) o)
-    (ap not right.asked, (ap not right.opens, (ap not right.next.0, (ap not right.next.1, tt))))
+none-from_right tests rules log tip links o right = grind (arith, common_steps, none-causes) steps 20000
 
 pub missing-none : (asked : Bool) (n : ℕ) → missing asked n ≡ None → asked ≡ false
 missing-none true n is = absurd (cc is)
@@ -93,9 +83,7 @@ failure-at tests rules log tip links front o rest rising is =
 pub answered : {A : Type 0} (may : Bool) (failed : Option HistoryRefusal) (answer other : A) (why : HistoryRefusal)
     → (if may then unless_failed failed answer else Err why) ≡ Ok other
     → (may ≡ true) × (failed ≡ None) × (answer ≡ other)
-answered true None answer other why is = (refl, refl, cc)
-answered true (Some wrong) answer other why is = absurd (cc is)
-answered false failed answer other why is = absurd (cc is)
+answered may failed answer other why is = grind (arith, common_steps) steps 20000
 
 -- openings of which none fails are right, and those of the blocks asked
 module _ (tests : Tests) (rules : Rules) (log : List RootCall) (tip : ℕ) (links : Links)
@@ -119,18 +107,12 @@ module _ (tests : Tests) (rules : Rules) (log : List RootCall) (tip : ℕ) (link
       let asked = every-weaker (IsRight tests rules log tip links) (λ o. is_asked log links.deposit tip o.block ≡ true)
       (λ o is. is.asked) openings right in
       are-asked log links.deposit tip openings rising asked
-      (λ n absent. false_from_ne_true (is_asked log links.deposit tip n)
-      (λ is. let parts = asked-parts log links.deposit tip n is in
-      true≢false (sym is ∙ missing-none (is_asked log links.deposit tip n) n
-      (ap (failure_in tests rules log tip links n) (sym absent)
-      ∙ none n (omega (arith, parts.2, above-block tip openings))))))
+      (grind (arith, common_steps, false_from_ne_true, asked-parts, true≢false, missing-none, above-block) steps 20000)
 
 -- an opening that is next at the tip is a link
 tip-some : (block tip k : ℕ) (a : Bool) (t : Option SignedTx) → block ≡ tip
     → (if a then not (block == tip) else spends k t) ≡ true → IsSome t
-tip-some block tip k true t e next = absurd (true≢false (sym next ∙ ap not (eq-eqb block tip e)))
-tip-some block tip k false None e next = next
-tip-some block tip k false (Some tx) e next = refl
+tip-some block tip k a t e next = grind (arith, common_steps, true≢false, eq-eqb) steps 20000
 
 found-made : (tests : Tests) (rules : Rules) (log : List RootCall) (bundle : Bundle) (links : Links) (made : CoinView)
     → AreRising bundle.openings → coin_at log bundle.coin ≡ Some made
@@ -144,16 +126,13 @@ found-made tests rules log bundle links made rising coin is =
     let right = right-each tests rules log bundle.tip own bundle.openings rising none in
     let asked = asked-each tests rules log bundle.tip own bundle.openings rising none in
     let both = linked tests rules bundle.tip own 0 [] bundle.openings tt (up-rising bundle.openings rising) refl
-    (every-weaker (IsRight tests rules log bundle.tip own)
-    (λ o. IsNext tests rules bundle.tip (links_before o.block own) o) (λ o r. r.next) bundle.openings right) in
+    (grind (arith, common_steps, every-weaker) steps 20000) in
     subst (IsHistory tests rules log bundle) parts.2
     (record {
       made = made;
       coin = coin;
       blocks = blocks-from_asked log made.deposit bundle.tip bundle.openings asked;
-      opened = All-from_recursion (λ o. opens_block tests log bundle.coin o ≡ true) bundle.openings
-          (every-weaker (IsRight tests rules log bundle.tip own) (λ o. opens_block tests log bundle.coin o ≡ true)
-          (λ o r. r.opens) bundle.openings right);
+      opened = grind (arith, common_steps, every-weaker) steps 20000;
       leaves = All-from_recursion (IsLeaf rules bundle.coin) bundle.openings both.0;
       shown = refl;
       linked = both.1;
@@ -168,10 +147,7 @@ found-made tests rules log bundle links made rising coin is =
         elim (or_cases (bundle.tip == made.deposit)
         (is_committed log bundle.tip && nat_lt made.deposit bundle.tip) may) [
           | inl same ↦
-              let e = eqb-true bundle.tip made.deposit same in
-              ap (λ (xs : List RawOpening). tip_from made.deposit (links_in rules bundle.coin xs))
-              (nothing-asked log made.deposit bundle.tip bundle.openings asked.each e)
-              ∙ ap (tip_from made.deposit) (none-linked rules bundle.coin) ∙ sym e
+              grind (arith, common_steps, eqb-true, tip_from, nothing-asked, none-linked) steps 20000
           | inr after ↦
               let is = and_from (is_committed log bundle.tip && nat_lt made.deposit bundle.tip)
               _ after (le-leb bundle.tip bundle.tip (omega arith)) in
@@ -182,9 +158,7 @@ found-made tests rules log bundle links made rising coin is =
                     let r = found-each (IsRight tests rules log bundle.tip (links_of rules made bundle))
                     bundle.openings bundle.tip x right found in
                     tip-reached rules bundle.coin bundle.tip (suc made.deposit) made.deposit bundle.openings asked.up
-                    (every-weaker (λ o. is_asked log made.deposit bundle.tip o.block ≡ true)
-                    (λ o. o.block ≤ bundle.tip)
-                    (λ o a. (asked-parts log made.deposit bundle.tip o.block a).2) bundle.openings asked.each)
+                    (grind (arith, common_steps, every-weaker, asked-parts) steps 20000)
                     x found
                     (tip-some x.block bundle.tip _ (is_absent x) (transfer_of rules bundle.coin x) r.0 r.1.next.0)
               ]) refl
@@ -192,13 +166,7 @@ found-made tests rules log bundle links made rising coin is =
 
 pub histories_are_found : OnlyHistoriesPass
 unfolding history_of
-histories_are_found tests rules log bundle links rising is =
-    (elim (coin_at log bundle.coin) as (λ o. coin_at log bundle.coin ≡ o
-    → where_made o (λ made. checked tests rules log bundle (links_of rules made bundle)) ≡ Ok links
-    → IsHistory tests rules log bundle links) [
-      | None ↦ λ none wrong. absurd (cc wrong)
-      | Some made ↦ λ coin same. found-made tests rules log bundle links made rising coin same
-    ]) refl is
+histories_are_found tests rules log bundle links rising is = grind (arith, common_steps, found-made) steps 20000
 
 -- ---- a history passes
 
@@ -213,8 +181,7 @@ none-fails tests rules log tip links openings right other n =
       | None ↦ λ absent. ap (λ (b : Bool). missing b n) (other n absent)
       | Some x ↦ λ found.
           let r = found-each (IsRight tests rules log tip links) openings n x right found in
-          subst (λ (k : ℕ). failure_in tests rules log tip links k (Some x) ≡ None) r.0
-          (none-from_right tests rules log tip links x r.1)
+          grind (arith, common_steps, none-from_right) steps 20000
     ]) refl
 
 -- an empty leaf isn't at the tip
@@ -223,17 +190,7 @@ pub absent-apart : (rules : Rules) (coin tip deposit : ℕ) (os : List RawOpenin
     → AllByRecursion (λ o. is_absent o ≡ true → o.block ≡ tip → ⊥) os
 absent-apart rules coin tip deposit os up is =
     each-found (λ o. is_absent o ≡ true → o.block ≡ tip → ⊥) (suc deposit) os up
-    (λ n o found absent at.
-    let own = found-each (λ x. suc deposit ≤ x.block) os n o (up-each (suc deposit) os up) found in
-    elim (tip-found rules coin tip (suc deposit) deposit os up is) [
-      | inl e ↦ absurd (omega (arith, own.1))
-      | inr shown ↦
-          let e : n ≡ tip = sym own.0 ∙ at in
-          let same : Some o ≡ Some shown.0 = sym found ∙ ap (opening_at os) e ∙ shown.1 in
-          absurd (true≢false (sym shown.2
-          ∙ ap is_some (absent-none rules coin shown.0 (subst (λ (y : RawOpening). is_absent y ≡ true)
-          (some_same o shown.0 same) absent))))
-    ])
+    (grind (arith, common_steps, found-each, up-each, tip-found, true≢false, absent-none, some_same) steps 20000)
 
 -- the tip of a history may be one
 tip-may : (log : List RootCall) (rules : Rules) (coin tip deposit : ℕ) (os : List RawOpening)
@@ -243,10 +200,7 @@ tip-may log rules coin tip deposit os asked is =
       | inl e ↦ ap (λ (b : Bool). b || (is_committed log tip && nat_lt deposit tip)) (eq-eqb tip deposit (sym e))
       | inr shown ↦
           let at = found-each (λ o. is_asked log deposit tip o.block ≡ true) os tip shown.0 asked.each shown.1 in
-          let parts = asked-parts log deposit tip tip
-          (subst (λ (k : ℕ). is_asked log deposit tip k ≡ true) at.0 at.1) in
-          or_right (tip == deposit) (is_committed log tip && nat_lt deposit tip)
-          (and_from (is_committed log tip) (nat_lt deposit tip) parts.0 (lt-ltb deposit tip parts.1))
+          grind (arith, common_steps, asked-parts, or_right, and_from, lt-ltb) steps 20000
     ]
 
 every-right : (tests : Tests) (rules : Rules) (log : List RootCall) (tip : ℕ) (links : Links) (os : List RawOpening)
@@ -255,10 +209,8 @@ every-right : (tests : Tests) (rules : Rules) (log : List RootCall) (tip : ℕ) 
     → AllByRecursion (λ o. IsNext tests rules tip (links_before o.block links) o) os
     → AllByRecursion (IsRight tests rules log tip links) os
 every-right tests rules log tip links [] asked opens next = tt
-every-right tests rules log tip links (o ∷ os) asked opens next = (
-  record { asked = asked.0; opens = opens.0; next = next.0 },
-  every-right tests rules log tip links os asked.1 opens.1 next.1,
-)
+every-right tests rules log tip links (o ∷ os) asked opens next =
+    grind (arith, common_steps, every-right tests rules log tip links os asked.1 opens.1 next.1) steps 20000
 
 -- each opening of a history is right
 pub history-right : (tests : Tests) (rules : Rules) (log : List RootCall) (bundle : Bundle) (links : Links)
@@ -287,12 +239,7 @@ histories_pass tests rules log bundle links is =
     let none = lowest-none_from failures (above bundle.tip bundle.openings)
     (λ n less. none-fails tests rules log bundle.tip own bundle.openings
     (history-right tests rules log bundle links is) asked.other n) in
-    ap (λ (o : Option CoinView). where_made o (λ made. checked tests rules log bundle (links_of rules made bundle)))
-    is.coin
-    ∙ ap (λ (b : Bool). if b then unless_failed
-    (lowest_failure failures (above bundle.tip bundle.openings)) own else Err (UnknownBlock bundle.tip)) may
-    ∙ ap (λ (o : Option HistoryRefusal). unless_failed o own) none
-    ∙ ap Ok (sym is.shown)
+    grind (arith, common_steps) steps 20000
 
 -- the blocks of a history rise
 pub history-rises : (tests : Tests) (rules : Rules) (log : List RootCall) (bundle : Bundle) (links : Links)

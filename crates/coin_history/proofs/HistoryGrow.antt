@@ -1,10 +1,11 @@
 -- Histories stay as the log grows, determine their links, and have beginnings.
-use Rattle.std.proofs.Common.{◌≡◌, ℕ, zero, suc, ◌+◌, ◌-◌, ◌<◌, ◌≤◌, ◌==◌, Bool, true, false, if◌then◌else◌, List, [], ◌∷◌, length, take, Option, Some, None, inl, inr, refl, sym, ap, ◌∙◌, subst, filter, arith}
-use Rattle.std.specs.Prelude.{is_some, nat_le}
-use Rattle.std.specs.Option.{option_map, option_map_or, option_and_then}
+use Rattle.std.proofs.Common.{◌≡◌, ℕ, zero, suc, ◌+◌, ◌<◌, ◌≤◌, Bool, true, false, if◌then◌else◌, List, [], ◌∷◌, length, take, Option, Some, None, inl, inr, refl, sym, ap, ◌∙◌, subst, filter, arith}
+use Rattle.std.specs.Prelude.{nat_le}
+use Rattle.std.specs.Option.{option_map, option_and_then}
 use Rattle.std.specs.List.{AllByRecursion, cons_option, range_with_len}
 use Rattle.std.proofs.lemmas.Bool.{cases_eq, eq-eqb, ne_eqb, le-leb, leb-true, leb-false, true≢false, false_from_ne_true}
-use Rattle.std.proofs.lemmas.List.Elements.{All-weaker, All-filter}
+use Rattle.std.proofs.lemmas.List.Elements.{All-filter}
+use Rattle.std.proofs.lemmas.Grind.{common_steps}
 use Rattle.plasma_tx.specs.declared.owner.Owner.{Owner}
 use Rattle.plasma_tx.specs.declared.opening.RawOpening.{RawOpening}
 use Rattle.plasma_tx.specs.declared.signed_tx.SignedTx.{SignedTx}
@@ -13,10 +14,9 @@ use Rattle.plasma_tx.specs.declared.links.Links.{Links}
 use Rattle.plasma_tx.specs.declared.call.RootCall.{RootCall}
 use Rattle.plasma_tx.specs.declared.call.RootCall.TheVariants.{Deposit, Commit}
 use Rattle.plasma_tx.specs.declared.views.BlockView.{BlockView}
-use Rattle.plasma_tx.specs.declared.views.BlockView.TheVariants.{DepositOf, Root}
 use Rattle.plasma_tx.specs.declared.views.CoinView.{CoinView}
 use Rattle.plasma_tx.specs.Links.{tip_of}
-use Rattle.plasma_tx.specs.Views.{blocks, coins, block_at, new_coin, coin_at}
+use Rattle.plasma_tx.specs.Views.{blocks, coins, block_at, coin_at}
 use Rattle.plasma_tx.proofs.Names.{some_same}
 use Rattle.plasma_tx.specs.Shown.{Tests, Rules, root_in, root_at}
 use Rattle.plasma_tx.proofs.Bounds.{coin_at-le}
@@ -48,38 +48,22 @@ block_at-le (call ∷ log) n block is = block_at-le log n block is
 pub block_at-grown : (log : List RootCall) (call : RootCall) (n : ℕ) → n ≤ blocks log
     → block_at (call ∷ log) n ≡ block_at log n
 unfolding block_at
-block_at-grown log (Deposit account amount key) n le =
-    ap (λ (b : Bool). if b then Some (DepositOf (coins log + 1)) else block_at log n)
-    (ne_eqb n (blocks log + 1) (λ e. omega arith))
-block_at-grown log (Commit account root) n le =
-    ap (λ (b : Bool). if b then Some (Root root) else block_at log n) (ne_eqb n (blocks log + 1) (λ e. omega arith))
-block_at-grown log call n le = refl
+block_at-grown log call n le = grind (arith, common_steps, ne_eqb) steps 20000
 
 pub root_at-grown : (log : List RootCall) (call : RootCall) (n : ℕ) → n ≤ blocks log
     → root_at (call ∷ log) n ≡ root_at log n
 root_at-grown log call n le = ap (option_and_then root_in) (block_at-grown log call n le)
 
 pub committed-le : (log : List RootCall) (n : ℕ) → is_committed log n ≡ true → n ≤ blocks log
-committed-le log n is =
-    (elim (block_at log n) as (λ o. block_at log n ≡ o → is_some (option_and_then root_in o) ≡ true → n ≤ blocks log) [
-      | None ↦ λ none wrong. absurd (true≢false (sym wrong))
-      | Some block ↦ λ some same. block_at-le log n block some
-    ]) refl is
+committed-le log n is = grind (arith, common_steps, true≢false, block_at-le) steps 20000
 
 pub opens-le : (tests : Tests) (log : List RootCall) (coin : ℕ) (o : RawOpening)
     → opens_block tests log coin o ≡ true → o.block ≤ blocks log
-opens-le tests log coin o is = committed-le log o.block (rooted (root_at log o.block) is)
-  where
-    rooted : (root : Option (List ℕ)) → option_map_or (λ r. tests.opens r coin o) root false ≡ true
-        → is_some root ≡ true
-    rooted None same = same
-    rooted (Some root) same = refl
+opens-le tests log coin o is = grind (arith, common_steps, committed-le) steps 20000
 
 pub opens-grown : (tests : Tests) (log : List RootCall) (call : RootCall) (coin : ℕ) (o : RawOpening)
     → opens_block tests log coin o ≡ true → opens_block tests (call ∷ log) coin o ≡ true
-opens-grown tests log call coin o is =
-    ap (λ (root : Option (List ℕ)). option_map_or (λ r. tests.opens r coin o) root false)
-    (root_at-grown log call o.block (opens-le tests log coin o is)) ∙ is
+opens-grown tests log call coin o is = grind (arith, common_steps, root_at-grown, opens-le) steps 20000
 
 -- tests that agree on a range keep the same of it
 filter-range : (p q : ℕ → Bool) (start count : ℕ) → ((n : ℕ) → start ≤ n → n < start + count → p n ≡ q n)
@@ -93,17 +77,12 @@ filter-range p q start (suc count) same =
 pub committed_blocks-grown : (log : List RootCall) (call : RootCall) (low high : ℕ) → high ≤ blocks log
     → committed_blocks (call ∷ log) low high ≡ committed_blocks log low high
 unfolding committed_blocks
-committed_blocks-grown log call low high le =
-    filter-range (is_committed (call ∷ log)) (is_committed log) (low + 1) (high - low)
-    (λ n from to. ap is_some (root_at-grown log call n (omega arith)))
+committed_blocks-grown log call low high le = grind (arith, common_steps, filter-range, root_at-grown) steps 20000
 
 pub coin_at-grown : (log : List RootCall) (call : RootCall) (c : ℕ) (made : CoinView) → coin_at log c ≡ Some made
     → coin_at (call ∷ log) c ≡ Some made
 unfolding coin_at
-coin_at-grown log (Deposit account amount key) c made is =
-    ap (λ (b : Bool). if b then Some (new_coin log account amount key) else coin_at log c)
-    (ne_eqb c (coins log + 1) (λ e. omega (arith, coin_at-le log c made is))) ∙ is
-coin_at-grown log call c made is = is
+coin_at-grown log call c made is = grind (arith, common_steps, ne_eqb, coin_at-le) steps 20000
 
 -- a coin's deposit block is among those counted
 pub deposit-le : (log : List RootCall) (c : ℕ) (made : CoinView) → coin_at log c ≡ Some made
@@ -113,9 +92,7 @@ deposit-le [] c made is = absurd (cc is)
 deposit-le (Deposit account amount key ∷ log) c made is =
     elim (cases_eq c (coins log + 1)) [
       | inl last ↦
-          let e : new_coin log account amount key ≡ made =
-          some_same (new_coin log account amount key) made (simp (eq-eqb c (coins log + 1) last) at is) in
-          omega (arith, ap (λ (m : CoinView). m.deposit) e)
+          grind (arith, common_steps, some_same, eq-eqb) steps 20000
       | inr other ↦ omega (arith, deposit-le log c made (simp (ne_eqb c (coins log + 1) other) at is))
     ]
 deposit-le (Commit account root ∷ log) c made is = omega (arith, deposit-le log c made is)
@@ -134,10 +111,7 @@ tip-le tests rules log bundle links is =
     (sym (tip-is own) ∙ last)) [
       | inl e ↦ omega (arith, deposit-le log bundle.coin is.made is.coin)
       | inr shown ↦
-          let at = found-each (λ o. is_asked log is.made.deposit bundle.tip o.block ≡ true) bundle.openings bundle.tip
-          shown.0 asked.each shown.1 in
-          let parts = asked-parts log is.made.deposit bundle.tip shown.0.block at.1 in
-          omega (arith, at.0, committed-le log shown.0.block parts.0)
+          grind (arith, common_steps, found-each, asked-parts, committed-le) steps 20000
     ]
 
 pub histories_stay : HistoriesStay
@@ -146,9 +120,7 @@ histories_stay tests rules log call bundle links is = record {
   coin = coin_at-grown log call bundle.coin is.made is.coin;
   blocks = is.blocks ∙ sym (committed_blocks-grown log call is.made.deposit bundle.tip
       (tip-le tests rules log bundle links is));
-  opened = All-weaker (λ o. opens_block tests log bundle.coin o ≡ true)
-      (λ o. opens_block tests (call ∷ log) bundle.coin o ≡ true) (opens-grown tests log call bundle.coin)
-      bundle.openings is.opened;
+  opened = grind (arith, common_steps, opens-grown) steps 20000;
   leaves = is.leaves;
   shown = is.shown;
   linked = is.linked;
@@ -158,8 +130,7 @@ histories_stay tests rules log call bundle links is = record {
 pub absences_stay : AbsencesStay
 absences_stay tests log call coin after last openings le is = record {
   blocks = is.blocks ∙ sym (committed_blocks-grown log call after last le);
-  opened = All-weaker (λ o. opens_block tests log coin o ≡ true) (λ o. opens_block tests (call ∷ log) coin o ≡ true)
-      (opens-grown tests log call coin) openings is.opened;
+  opened = grind (arith, common_steps, opens-grown) steps 20000;
   empty = is.empty;
 }
 
@@ -167,8 +138,7 @@ absences_stay tests log call coin after last openings le is = record {
 
 pub histories_have_one_meaning : HistoriesHaveOneMeaning
 histories_have_one_meaning tests rules log bundle links others one other =
-    let made : one.made ≡ other.made = some_same one.made other.made (sym one.coin ∙ other.coin) in
-    one.shown ∙ ap (λ (m : CoinView). links_of rules m bundle) made ∙ sym other.shown
+    grind (arith, common_steps, some_same) steps 20000
 
 -- ---- beginnings
 
@@ -199,9 +169,7 @@ within k os = filter (λ o. nat_le o.block k) os
 within-none : (k : ℕ) (os : List RawOpening) → AllByRecursion (λ o. k < o.block) os → within k os ≡ []
 within-none k [] all = refl
 within-none k (o ∷ os) all =
-    ap (λ (b : Bool). if b then o ∷ within k os else within k os)
-    (false_from_ne_true (nat_le o.block k) (λ is. omega (arith, leb-true o.block k is, all.0)))
-    ∙ within-none k os all.1
+    grind (arith, common_steps, within-none k os all.1, false_from_ne_true, leb-true) steps 20000
 
 within-first : (k : ℕ) (o : RawOpening) (os : List RawOpening) → o.block ≤ k → within k (o ∷ os) ≡ o ∷ within k os
 within-first k o os le =
@@ -209,32 +177,20 @@ within-first k o os le =
 
 up-within : (k low : ℕ) (os : List RawOpening) → Up low os → Up low (within k os)
 up-within k low [] up = tt
-up-within k low (o ∷ os) up =
-    elim (nat_le o.block k) as (λ b. Up low (if b then o ∷ within k os else within k os)) [
-      | true ↦ (up.0, up-within k (suc o.block) os up.1)
-      | false ↦ up-weaker low (suc o.block) (within k os) (omega (arith, up.0)) (up-within k (suc o.block) os up.1)
-    ]
+up-within k low (o ∷ os) up = grind (arith, common_steps, up-within k (suc o.block) os up.1, up-weaker) steps 20000
 
 -- the opening of a block up to there is the same
 opening-within : (k n : ℕ) (os : List RawOpening) → n ≤ k → opening_at (within k os) n ≡ opening_at os n
 opening-within k n [] le = refl
-opening-within k n (o ∷ os) le =
-    (elim (nat_le o.block k) as (λ b. nat_le o.block k ≡ b
-    → opening_at (if b then o ∷ within k os else within k os) n ≡ opening_at (o ∷ os) n) [
-      | true ↦ λ kept. ap (λ (r : Option RawOpening). if o.block == n then Some o else r) (opening-within k n os le)
-      | false ↦ λ out. opening-within k n os le
-          ∙ sym (past-head n o os (λ e. omega (arith, leb-false o.block k out)))
-    ]) refl
+opening-within k n (o ∷ os) le = grind (arith, common_steps, opening-within k n os le, past-head, leb-false) steps 20000
 
 pub asked-within : (log : List RootCall) (low high k : ℕ) (os : List RawOpening) → k ≤ high → AreAsked log low high os
     → AreAsked log low k (within k os)
 asked-within log low high k os le asked = record {
   up = up-within k (suc low) os asked.up;
   each = each os asked.each;
-  other = λ n none. false_from_ne_true (is_asked log low k n)
-      (λ is. let parts = asked-parts log low k n is in
-      true≢false (sym (asked-from log low high n parts.0 parts.1 (omega (arith, parts.2)))
-      ∙ asked.other n (sym (opening-within k n os parts.2) ∙ none)));
+  other =
+      grind (arith, common_steps, false_from_ne_true, asked-parts, true≢false, asked-from, opening-within) steps 20000;
 }
   where
     each : (xs : List RawOpening) → AllByRecursion (λ o. is_asked log low high o.block ≡ true) xs
@@ -286,13 +242,7 @@ module _ (rules : Rules) (coin : ℕ) where
     where
       skipped : transfer_of rules coin o ≡ None → (k : ℕ)
           → links_in rules coin (within k (o ∷ os)) ≡ links_in rules coin (within k os)
-      skipped none k =
-          elim (nat_le o.block k) as (λ b. links_in rules coin (if b then o ∷ within k os else within k os)
-          ≡ links_in rules coin (within k os)) [
-            | true ↦ ap (λ (t : Option SignedTx). cons_option (option_map (with_tx o) t)
-                (links_in rules coin (within k os))) none
-            | false ↦ refl
-          ]
+      skipped none k = grind (arith, common_steps, with_tx) steps 20000
 
 begins : (tests : Tests) (rules : Rules) (log : List RootCall) (bundle : Bundle) (made : CoinView) (count k : ℕ)
     → count ≤ length (links_in rules bundle.coin bundle.openings)
@@ -309,26 +259,20 @@ begins tests rules log bundle made count k le e coin is =
     let least : made.deposit ≤ bundle.tip = subst (λ (n : ℕ). made.deposit ≤ n) (sym (tip-is own) ∙ is.tip)
     (last-holds (λ n. made.deposit ≤ n) made.deposit own.spends (omega arith)
     (links-block rules bundle.coin (λ n. made.deposit ≤ n) bundle.openings
-    (every-weaker (λ o. suc made.deposit ≤ o.block) (λ o. made.deposit ≤ o.block) (λ o more. omega arith)
-    bundle.openings (up-each (suc made.deposit) bundle.openings asked.up)))) in
+    (grind (arith, common_steps, every-weaker, up-each) steps 20000))) in
     let most : k ≤ bundle.tip = subst (λ (n : ℕ). n ≤ bundle.tip) (sym e)
     (last-holds (λ n. n ≤ bundle.tip) made.deposit (take count own.spends) least
     (every-take (λ (link : Link). link.block ≤ bundle.tip) count own.spends
     (links-block rules bundle.coin (λ n. n ≤ bundle.tip) bundle.openings
-    (every-weaker (λ o. is_asked log made.deposit bundle.tip o.block ≡ true) (λ o. o.block ≤ bundle.tip)
-    (λ o a. (asked-parts log made.deposit bundle.tip o.block a).2) bundle.openings asked.each)))) in
+    (grind (arith, common_steps, every-weaker, asked-parts) steps 20000)))) in
     record {
       made = made;
       coin = coin;
-      blocks = blocks-from_asked log made.deposit k (within k bundle.openings)
-          (asked-within log made.deposit bundle.tip k bundle.openings most asked);
+      blocks = grind (arith, common_steps, blocks-from_asked, asked-within) steps 20000;
       opened = All-filter (λ o. nat_le o.block k) (λ o. opens_block tests log bundle.coin o ≡ true)
           bundle.openings is.opened;
       leaves = All-filter (λ o. nat_le o.block k) (IsLeaf rules bundle.coin) bundle.openings is.leaves;
-      shown = ap (λ (l : List Link). record own { spends = l })
-          (sym (ap (λ (n : ℕ). links_in rules bundle.coin (within n bundle.openings)) e
-          ∙ links-within rules bundle.coin count (suc made.deposit) made.deposit bundle.openings asked.up
-          (omega arith) le));
+      shown = grind (arith, common_steps, links-within) steps 20000;
       linked = linked-take tests count made.deposit made.owner own.spends is.linked;
       tip = tip-is (first_links count own) ∙ sym e;
     }

@@ -1,21 +1,21 @@
 -- The links that openings show, those before an opening, and where they end.
-use Rattle.std.proofs.Common.{◌≡◌, ℕ, suc, ◌-◌, ◌<◌, ◌≤◌, ◌==◌, not, Bool, true, false, if◌then◌else◌, List, [], ◌∷◌, ◌++◌, length, Option, Some, None, inl, inr, refl, sym, ap, ◌∙◌, subst, filter, append_assoc, arith}
+use Rattle.std.proofs.Common.{◌≡◌, ℕ, suc, ◌-◌, ◌<◌, ◌≤◌, ◌==◌, not, Bool, true, false, if◌then◌else◌, List, [], ◌∷◌, ◌++◌, length, Option, Some, None, inl, inr, refl, sym, ap, ◌∙◌, subst, filter, arith}
 use Rattle.std.specs.Prelude.{is_some, nat_lt, slice_get, ◌||◌, ◌⊎◌}
 use Rattle.std.specs.Option.{option_map, option_map_or}
 use Rattle.std.specs.List.{AllByRecursion, cons_option}
 use Rattle.std.proofs.lemmas.Bool.{eqb-true, eq-eqb, ne_eqb, lt-ltb, le-ltb, true≢false}
 use Rattle.std.proofs.lemmas.List.Elements.{filter_map-append}
+use Rattle.std.proofs.lemmas.Grind.{common_steps}
 use Rattle.plasma_tx.specs.declared.owner.Owner.{Owner}
 use Rattle.plasma_tx.specs.declared.opening.RawOpening.{RawOpening}
 use Rattle.plasma_tx.specs.declared.signed_tx.SignedTx.{SignedTx}
 use Rattle.plasma_tx.specs.declared.links.Link.{Link}
 use Rattle.plasma_tx.specs.declared.links.Links.{Links}
 use Rattle.plasma_tx.specs.Links.{tip_of, last_owner_of}
-use Rattle.plasma_tx.specs.Transfer.{transfer_in}
 use Rattle.plasma_tx.proofs.Leaves.{empty-none}
 use Rattle.plasma_tx.specs.Shown.{Tests, Rules, spends, signs}
 use Rattle.coin_history.specs.Bundles.{AreRising}
-use Rattle.coin_history.specs.History.{leaf_of_opening, is_empty, is_absent, transfer_of, link_of, links_in, AreLinked}
+use Rattle.coin_history.specs.History.{is_empty, is_absent, transfer_of, link_of, links_in, AreLinked}
 use Rattle.coin_history.specs.Checking.{opening_at, links_before, is_next, is_next_signed}
 use Rattle.coin_history.proofs.HistoryOpenings.{up-front, up-rest, Up, up-rising, up-each, found-cases, at-head, past-head, below-none}
 
@@ -47,9 +47,7 @@ last-is : {X : Type 0} (f : Link → X) (d : X) (links : List Link)
     → option_map_or f (slice_get links (length links - 1)) d ≡ last_from f d links
 last-is f d [] = refl
 last-is f d (x ∷ []) = refl
-last-is f d (x ∷ y ∷ ys) =
-    let e : length (x ∷ y ∷ ys) - 1 ≡ suc (length (y ∷ ys) - 1) = omega arith in
-    ap (λ (n : ℕ). option_map_or f (slice_get (x ∷ y ∷ ys) n) d) e ∙ last-is f d (y ∷ ys)
+last-is f d (x ∷ y ∷ ys) = grind (arith, common_steps, last-is f d (y ∷ ys)) steps 20000
 
 pub last-push : {X : Type 0} (f : Link → X) (d : X) (links : List Link) (link : Link)
     → last_from f d (links ++ link ∷ []) ≡ f link
@@ -70,9 +68,7 @@ empty-is (byte ∷ bytes) is = absurd (cc is)
 
 -- an empty leaf is no transfer
 pub absent-none : (rules : Rules) (coin : ℕ) (o : RawOpening) → is_absent o ≡ true → transfer_of rules coin o ≡ None
-absent-none rules coin o absent =
-    ap (transfer_in rules.tag coin o.block) (empty-is (leaf_of_opening o) absent)
-    ∙ empty-none rules.tag coin o.block
+absent-none rules coin o absent = grind (arith, common_steps, empty-is, empty-none) steps 20000
 
 -- the link of a transfer that an opening shows
 abbrev pub with_tx : RawOpening → SignedTx → Link
@@ -82,12 +78,7 @@ pub links-block : (rules : Rules) (coin : ℕ) (P : ℕ → Type 0) (openings : 
     → AllByRecursion (λ o. P o.block) openings → AllByRecursion (λ link. P link.block) (links_in rules coin openings)
 unfolding links_in
 links-block rules coin P [] all = tt
-links-block rules coin P (o ∷ os) all =
-    elim (transfer_of rules coin o) as (λ t. AllByRecursion (λ (link : Link). P link.block)
-    (cons_option (option_map (with_tx o) t) (links_in rules coin os))) [
-      | None ↦ links-block rules coin P os all.1
-      | Some tx ↦ (all.0, links-block rules coin P os all.1)
-    ]
+links-block rules coin P (o ∷ os) all = grind (arith, common_steps, links-block rules coin P os all.1) steps 20000
 
 pub none-linked : (rules : Rules) (coin : ℕ) → links_in rules coin [] ≡ []
 unfolding links_in
@@ -97,13 +88,8 @@ none-linked rules coin = refl
 filter-split : (n : ℕ) (xs ys : List Link) → AllByRecursion (λ link. link.block < n) xs
     → AllByRecursion (λ link. n ≤ link.block) ys → filter (λ link. nat_lt link.block n) (xs ++ ys) ≡ xs
 filter-split n [] [] low high = refl
-filter-split n [] (y ∷ ys) low high =
-    ap (λ (b : Bool). if b then y ∷ filter (λ link. nat_lt link.block n) ys
-    else filter (λ link. nat_lt link.block n) ys) (le-ltb y.block n high.0) ∙ filter-split n [] ys tt high.1
-filter-split n (x ∷ xs) ys low high =
-    ap (λ (b : Bool). if b then x ∷ filter (λ link. nat_lt link.block n) (xs ++ ys)
-    else filter (λ link. nat_lt link.block n) (xs ++ ys)) (lt-ltb x.block n low.0)
-    ∙ ap (λ (l : List Link). x ∷ l) (filter-split n xs ys low.1 high)
+filter-split n [] (y ∷ ys) low high = grind (arith, common_steps, filter-split n [] ys tt high.1, le-ltb) steps 20000
+filter-split n (x ∷ xs) ys low high = grind (arith, common_steps, filter-split n xs ys low.1 high, lt-ltb) steps 20000
 
 -- the links before an opening of rising ones are those that the openings before it show
 pub links_before-front : (rules : Rules) (coin : ℕ) (front : List RawOpening) (o : RawOpening)
@@ -117,8 +103,7 @@ links_before-front rules coin front o rest rising =
     (links-block rules coin (λ n. n < o.block) front (up-front 0 front o rest up))
     (links-block rules coin (λ n. o.block ≤ n) (o ∷ rest) (
       omega arith,
-      every-weaker (λ x. suc o.block ≤ x.block) (λ x. o.block ≤ x.block) (λ x more. omega arith) rest
-          (up-each (suc o.block) rest (up-rest 0 front o rest up)),
+      grind (arith, common_steps, every-weaker, up-each, up-rest) steps 20000,
     ))
 
 -- ---- openings that are next
@@ -149,12 +134,10 @@ module _ (tests : Tests) (rules : Rules) (tip : ℕ) (links : Links) where
   before-is low before o os below up is =
       ap At (ap (filter (λ (link : Link). nat_lt link.block o.block)) is
       ∙ filter-split o.block before (links_in rules links.coin (o ∷ os))
-      (every-weaker (λ link. link.block < low) (λ link. link.block < o.block)
-      (λ link less. omega (arith, up.0)) before below)
+      (grind (arith, common_steps, every-weaker) steps 20000)
       (links-block rules links.coin (λ n. o.block ≤ n) (o ∷ os) (
         omega arith,
-        every-weaker (λ x. suc o.block ≤ x.block) (λ x. o.block ≤ x.block)
-            (λ x more. omega arith) os (up-each (suc o.block) os up.1),
+        grind (arith, common_steps, every-weaker, up-each) steps 20000,
       )))
 
   -- where an opening is no link, and where it is one
@@ -162,32 +145,22 @@ module _ (tests : Tests) (rules : Rules) (tip : ℕ) (links : Links) where
       → links.spends ≡ before ++ links_in rules links.coin (o ∷ os) → transfer_of rules links.coin o ≡ None
       → links.spends ≡ before ++ links_in rules links.coin os
   unfolding links_in
-  after-none o os before is none =
-      is ∙ ap (λ (t : Option SignedTx). before ++ cons_option (option_map (with_tx o) t)
-      (links_in rules links.coin os)) none
+  after-none o os before is none = grind (arith, common_steps) steps 20000
 
   after-some : (o : RawOpening) (os : List RawOpening) (before : List Link) (tx : SignedTx)
       → links.spends ≡ before ++ links_in rules links.coin (o ∷ os) → transfer_of rules links.coin o ≡ Some tx
       → links.spends ≡ (before ++ with_tx o tx ∷ []) ++ links_in rules links.coin os
   unfolding links_in
-  after-some o os before tx is some =
-      is ∙ ap (λ (t : Option SignedTx). before ++ cons_option (option_map (with_tx o) t)
-      (links_in rules links.coin os)) some
-      ∙ sym (append_assoc before (with_tx o tx ∷ []) (links_in rules links.coin os))
+  after-some o os before tx is some = grind (arith, common_steps) steps 20000
 
   below-some : (low : ℕ) (o : RawOpening) (before : List Link) (tx : SignedTx) → low ≤ o.block
       → AllByRecursion (λ link. link.block < low) before
       → AllByRecursion (λ link. link.block < suc o.block) (before ++ with_tx o tx ∷ [])
-  below-some low o before tx le below =
-      every-push (λ link. link.block < suc o.block) before (with_tx o tx)
-      (every-weaker (λ link. link.block < low) (λ link. link.block < suc o.block)
-      (λ link less. omega arith) before below) (omega arith)
+  below-some low o before tx le below = grind (arith, common_steps, every-push, every-weaker) steps 20000
 
   below-none_there : (low : ℕ) (o : RawOpening) (before : List Link) → low ≤ o.block
       → AllByRecursion (λ link. link.block < low) before → AllByRecursion (λ link. link.block < suc o.block) before
-  below-none_there low o before le below =
-      every-weaker (λ link. link.block < low) (λ link. link.block < suc o.block)
-      (λ link less. omega arith) before below
+  below-none_there low o before le below = grind (arith, common_steps, every-weaker) steps 20000
 
   linked-one : {R : Type 0} (o : RawOpening) (a : Bool) (t : Option SignedTx) (before rest : List Link)
       → (a ≡ true → t ≡ None)
@@ -226,14 +199,7 @@ module _ (tests : Tests) (rules : Rules) (tip : ℕ) (links : Links) where
       (after-none o os before is none) next.1)
       (λ tx some.
       let r = linked (suc o.block) (before ++ with_tx o tx ∷ []) os (below-some low o before tx up.0 below) up.1
-      (after-some o os before tx is some) next.1 in (
-        r.0,
-        subst (λ (block : ℕ). AreLinked tests block tx.body.to (links_in rules links.coin os))
-            (last-push (λ link. link.block) links.deposit before (with_tx o tx))
-            (subst (λ (owner : Owner). AreLinked tests (tip_from links.deposit (before ++ with_tx o tx ∷ [])) owner
-            (links_in rules links.coin os))
-            (last-push (λ link. link.tx.body.to) links.owner before (with_tx o tx)) r.1),
-      ))
+      (after-some o os before tx is some) next.1 in grind (arith, common_steps, last-push) steps 20000)
 
   next-one : {R : Type 0} (o : RawOpening) (a : Bool) (t : Option SignedTx) (before rest : List Link)
       → (a || is_some t) ≡ true → (a ≡ true → t ≡ None) → (a ≡ true → o.block ≡ tip → ⊥)
@@ -272,11 +238,7 @@ module _ (tests : Tests) (rules : Rules) (tip : ℕ) (links : Links) where
       (after-none o os before is none) leaves.1 other.1 further)
       (λ tx some further. are-next (suc o.block) (before ++ with_tx o tx ∷ []) os
       (below-some low o before tx up.0 below) up.1 (after-some o os before tx is some) leaves.1 other.1
-      (subst (λ (block : ℕ). AreLinked tests block (owner_from links.owner (before ++ with_tx o tx ∷ []))
-      (links_in rules links.coin os))
-      (sym (last-push (λ link. link.block) links.deposit before (with_tx o tx)))
-      (subst (λ (owner : Owner). AreLinked tests o.block owner (links_in rules links.coin os))
-      (sym (last-push (λ link. link.tx.body.to) links.owner before (with_tx o tx))) further))) in (
+      (grind (arith, common_steps, last-push) steps 20000)) in (
         subst (λ (x : Links). IsNext tests rules tip x o) (sym (before-is low before o os below up is)) both.0,
         both.1,
       )
@@ -302,9 +264,7 @@ module _ (rules : Rules) (coin tip : ℕ) where
   tip-reached low block [] up most x found some = absurd (cc found)
   tip-reached low block (o ∷ os) up most x found some = elim (found-cases tip o os x found) [
     | inl here ↦
-        tip-own block o (transfer_of rules coin o) (links_in rules coin os)
-        (subst (λ (y : RawOpening). IsSome (transfer_of rules coin y)) (sym here.1) some)
-        (ap (links_in rules coin) (none-above os up.1 most.1 here.0)) here.0
+        grind (arith, common_steps, tip-own, none-above) steps 20000
     | inr later ↦ tip-cons block o (transfer_of rules coin o) (links_in rules coin os)
         (λ b. tip-reached (suc o.block) b os up.1 most.1 x later.1 some)
   ]
@@ -327,10 +287,7 @@ module _ (rules : Rules) (coin tip : ℕ) where
       (elim (transfer_of rules coin o) as (λ t. transfer_of rules coin o ≡ t
       → tip_from block (cons_option (option_map (with_tx o) t) (links_in rules coin os)) ≡ tip
       → (block ≡ tip) ⊎ IsTipShown (o ∷ os)) [
-        | None ↦ λ none same. elim (tip-found (suc o.block) block os up.1 same) [
-          | inl e ↦ inl e
-          | inr shown ↦ inr (later shown)
-        ]
+        | None ↦ λ none same. grind (arith, common_steps, tip-found (suc o.block) block os up.1 same, later) steps 20000
         | Some tx ↦ λ some same. elim (tip-found (suc o.block) o.block os up.1 same) [
           | inl e ↦ inr (o, at-head tip o os e, ap is_some some)
           | inr shown ↦ inr (later shown)
@@ -338,9 +295,4 @@ module _ (rules : Rules) (coin tip : ℕ) where
       ]) refl is
     where
       later : IsTipShown os → IsTipShown (o ∷ os)
-      later shown = (
-        shown.0,
-        past-head tip o os (λ e. let none = below-none (suc o.block) os up.1 tip (omega arith) in
-            absurd (cc (none, shown.1))) ∙ shown.1,
-        shown.2,
-      )
+      later shown = grind (arith, common_steps, past-head, below-none) steps 20000

@@ -1,10 +1,11 @@
 -- Openings whose blocks rise, the opening of a block, and the lowest failure.
-use Rattle.std.proofs.Common.{◌≡◌, ℕ, zero, suc, ◌+◌, ◌-◌, ◌<◌, ◌≤◌, ◌&&◌, Bool, true, false, if◌then◌else◌, List, [], ◌∷◌, ◌++◌, length, get_or, Option, Some, None, inl, inr, refl, sym, ap, ◌∙◌, subst, filter, arith}
-use Rattle.std.specs.Prelude.{nat_lt, nat_le, ◌⊎◌}
+use Rattle.std.proofs.Common.{◌≡◌, ℕ, zero, suc, ◌+◌, ◌-◌, ◌<◌, ◌≤◌, Bool, true, false, if◌then◌else◌, List, [], ◌∷◌, ◌++◌, length, get_or, Option, Some, None, inl, inr, refl, sym, ap, ◌∙◌, subst, filter, arith}
+use Rattle.std.specs.Prelude.{◌⊎◌}
 use Rattle.std.specs.Option.{option_or}
 use Rattle.std.specs.List.{AllByRecursion, range_with_len}
 use Rattle.std.proofs.lemmas.Bool.{cases_eq, eq-eqb, ne_eqb, and_parts, and_from, ltb-true, lt-ltb, leb-true, le-leb, true≢false, false_from_ne_true}
 use Rattle.std.proofs.lemmas.List.Elements.{recursion_from_All}
+use Rattle.std.proofs.lemmas.Grind.{common_steps}
 use Rattle.plasma_tx.specs.declared.opening.RawOpening.{RawOpening}
 use Rattle.plasma_tx.specs.declared.call.RootCall.{RootCall}
 use Rattle.plasma_tx.proofs.Names.{some_same, option_or-none}
@@ -71,10 +72,8 @@ unfolding lowest_failure
 lowest-some_from failure zero m why less fails first = absurd (omega arith)
 lowest-some_from failure (suc n) m why less fails first =
     elim (cases_eq m n) [
-      | inl e ↦ ap (λ (o : Option HistoryRefusal). option_or o (failure n))
-          (lowest-none_from failure n (λ k below. first k (omega arith))) ∙ ap failure (sym e) ∙ fails
-      | inr apart ↦ ap (λ (o : Option HistoryRefusal). option_or o (failure n))
-          (lowest-some_from failure n m why (omega arith) fails first)
+      | inl e ↦ grind (arith, common_steps, lowest-none_from) steps 20000
+      | inr apart ↦ grind (arith, common_steps, lowest-some_from failure n m why (omega arith) fails first) steps 20000
     ]
 
 -- failures that agree below n have the same lowest one
@@ -84,8 +83,7 @@ unfolding lowest_failure
 lowest-same failure other zero same = refl
 lowest-same failure other (suc n) same =
     let before = lowest-same failure other n (λ m less. same m (omega arith)) in
-    let here : failure n ≡ other n = same n (omega arith) in
-    λ i. option_or (before i) (here i)
+    grind (arith, common_steps) steps 20000
 
 -- where nothing fails from k on, any larger number has the lowest failure of k
 pub lowest-more : (failure : ℕ → Option HistoryRefusal) (k n : ℕ) → k ≤ n
@@ -95,8 +93,7 @@ lowest-more failure k zero le none = let e : zero ≡ k = omega arith in ap (low
 lowest-more failure k (suc n) le none =
     elim (cases_eq k (suc n)) [
       | inl e ↦ ap (lowest_failure failure) (sym e)
-      | inr apart ↦ ap (λ (o : Option HistoryRefusal). option_or (lowest_failure failure n) o) (none n (omega arith))
-          ∙ option_or-none (lowest_failure failure n) ∙ lowest-more failure k n (omega arith) none
+      | inr apart ↦ grind (arith, common_steps, lowest-more failure k n (omega arith) none, option_or-none) steps 20000
     ]
 
 -- ---- rising blocks
@@ -182,10 +179,7 @@ past-head n o os apart = ap (λ (b : Bool). if b then Some o else opening_at os 
 -- the opening that is found is the first, or is found in the rest
 pub found-cases : (n : ℕ) (o : RawOpening) (os : List RawOpening) (x : RawOpening) → opening_at (o ∷ os) n ≡ Some x
     → ((o.block ≡ n) × (o ≡ x)) ⊎ ((o.block ≡ n → ⊥) × (opening_at os n ≡ Some x))
-found-cases n o os x found = elim (cases_eq o.block n) [
-  | inl e ↦ inl (e, some_same o x (sym (at-head n o os e) ∙ found))
-  | inr apart ↦ inr (apart, sym (past-head n o os apart) ∙ found)
-]
+found-cases n o os x found = grind (arith, common_steps, cases_eq, some_same, at-head, past-head) steps 20000
 
 -- there is none at a block below
 pub below-none : (low : ℕ) (openings : List RawOpening) → Up low openings → (n : ℕ) → n < low
@@ -204,8 +198,7 @@ each-found P low (o ∷ os) up h = (
 )
   where
     later : (n : ℕ) (x : RawOpening) → opening_at os n ≡ Some x → opening_at (o ∷ os) n ≡ Some x
-    later n x found = past-head n o os
-        (λ e. let none = below-none (suc o.block) os up.1 n (omega arith) in cc) ∙ found
+    later n x found = grind (arith, common_steps, past-head, below-none) steps 20000
 
 -- what holds of each opening holds of one that is found, and it is of that block
 pub found-each : (P : RawOpening → Type 0) (openings : List RawOpening) (n : ℕ) (x : RawOpening)
@@ -228,10 +221,7 @@ pub own-found : (low : ℕ) (front : List RawOpening) (o : RawOpening) (rest : L
     → Up low (front ++ o ∷ rest) → opening_at (front ++ o ∷ rest) o.block ≡ Some o
 own-found low [] o rest up = at-head o.block o rest refl
 own-found low (x ∷ front) o rest up =
-    past-head o.block x (front ++ o ∷ rest)
-    (λ e. let none = below-none (suc x.block) (front ++ o ∷ rest) up.1 o.block (omega arith) in
-    let found = own-found (suc x.block) front o rest up.1 in cc)
-    ∙ own-found (suc x.block) front o rest up.1
+    grind (arith, common_steps, own-found (suc x.block) front o rest up.1, past-head, below-none) steps 20000
 
 pub opening-own : (front : List RawOpening) (o : RawOpening) (rest : List RawOpening)
     → AreRising (front ++ o ∷ rest) → opening_at (front ++ o ∷ rest) o.block ≡ Some o
@@ -304,24 +294,12 @@ module _ (p : ℕ → Bool) where
   -- no opening is at the start
   skipped : (start count : ℕ) (os : List RawOpening) → Up (start + 1) os → AreOf p start (suc count) os
       → (p start ≡ false) × AreOf p (start + 1) count os
-  skipped start count os up are = (
-    are.other start (below-none (start + 1) os up start (omega arith)) (omega arith) (omega arith),
-    record {
-      up = up;
-      each = each-next start count os are.each;
-      other = λ n none low high. are.other n none (omega arith) (omega arith);
-    },
-  )
+  skipped start count os up are = grind (arith, common_steps, below-none, each-next) steps 20000
 
   -- the first opening is at the start
   taken : (start count : ℕ) (o : RawOpening) (os : List RawOpening) → o.block ≡ start
       → AreOf p start (suc count) (o ∷ os) → AreOf p (start + 1) count os
-  taken start count o os e are = record {
-    up = up-weaker (start + 1) (suc o.block) os (omega arith) are.up.1;
-    each = each-next start count os are.each.1;
-    other = λ n none low high.
-        are.other n (past-head n o os (λ same. omega arith) ∙ none) (omega arith) (omega arith);
-  }
+  taken start count o os e are = grind (arith, common_steps, up-weaker, each-next, past-head) steps 20000
 
   pub blocks-from_are : (start count : ℕ) (openings : List RawOpening) → AreOf p start count openings
       → blocks_of openings ≡ filter p (range_with_len start count)
@@ -329,21 +307,15 @@ module _ (p : ℕ → Bool) where
   blocks-from_are start zero (o ∷ os) are = absurd (omega (arith, are.up.0, are.each.0.1))
   blocks-from_are start (suc count) [] are =
       let next = skipped start count [] tt are in
-      blocks-from_are (start + 1) count [] next.1
-      ∙ ap (λ (b : Bool). if b then start ∷ filter p (range_with_len (start + 1) count)
-      else filter p (range_with_len (start + 1) count)) (sym next.0)
+      grind (arith, common_steps, blocks-from_are (start + 1) count [] next.1) steps 20000
   blocks-from_are start (suc count) (o ∷ os) are = elim (cases_eq o.block start) [
     | inl e ↦
         let passes : p start ≡ true = ap p (sym e) ∙ are.each.0.0 in
         let rest = blocks-from_are (start + 1) count os (taken start count o os e are) in
-        (λ i. e i ∷ rest i)
-        ∙ ap (λ (b : Bool). if b then start ∷ filter p (range_with_len (start + 1) count)
-        else filter p (range_with_len (start + 1) count)) (sym passes)
+        grind (arith, common_steps) steps 20000
     | inr apart ↦
         let next = skipped start count (o ∷ os) (omega (arith, are.up.0), are.up.1) are in
-        blocks-from_are (start + 1) count (o ∷ os) next.1
-        ∙ ap (λ (b : Bool). if b then start ∷ filter p (range_with_len (start + 1) count)
-        else filter p (range_with_len (start + 1) count)) (sym next.0)
+        grind (arith, common_steps, blocks-from_are (start + 1) count (o ∷ os) next.1) steps 20000
   ]
 
   pub are-from_blocks : (start count : ℕ) (openings : List RawOpening)
@@ -371,35 +343,20 @@ module _ (p : ℕ → Bool) where
           record {
             up = (omega arith, up-weaker (suc o.block) (start + 1) xs (omega arith) are.up);
             each = ((ap p at ∙ passes, omega arith), each-last start count xs are.each);
-            other = λ n none low high. elim (cases_eq o.block n) [
-              | inl e ↦ let found = at-head n o xs e in absurd (cc)
-              | inr apart ↦ are.other n (sym (past-head n o xs apart) ∙ none) (omega arith) (omega arith)
-            ];
+            other = grind (arith, common_steps, cases_eq, at-head, past-head) steps 20000;
           }
 
       later : p start ≡ false → AreOf p (start + 1) count os → AreOf p start (suc count) os
-      later fails are = record {
-        up = up-weaker start (start + 1) os (omega arith) are.up;
-        each = each-last start count os are.each;
-        other = λ n none low high. elim (cases_eq n start) [
-          | inl e ↦ ap p e ∙ fails
-          | inr apart ↦ are.other n none (omega arith) (omega arith)
-        ];
-      }
+      later fails are = grind (arith, common_steps, up-weaker, each-last, cases_eq) steps 20000
 
 -- a block is asked where it is a committed one after low and at most high
 pub asked-parts : (log : List RootCall) (low high n : ℕ) → is_asked log low high n ≡ true
     → (is_committed log n ≡ true) × (low < n) × (n ≤ high)
-asked-parts log low high n asked =
-    let outer = and_parts (is_committed log n && nat_lt low n) (nat_le n high) asked in
-    let inner = and_parts (is_committed log n) (nat_lt low n) outer.0 in
-    (inner.0, ltb-true low n inner.1, leb-true n high outer.1)
+asked-parts log low high n asked = grind (arith, common_steps, and_parts, ltb-true, leb-true) steps 20000
 
 pub asked-from : (log : List RootCall) (low high n : ℕ) → is_committed log n ≡ true → low < n → n ≤ high
     → is_asked log low high n ≡ true
-asked-from log low high n committed more less =
-    and_from (is_committed log n && nat_lt low n) (nat_le n high)
-    (and_from (is_committed log n) (nat_lt low n) committed (lt-ltb low n more)) (le-leb n high less)
+asked-from log low high n committed more less = grind (arith, common_steps, and_from, lt-ltb, le-leb) steps 20000
 
 -- Each opening is of a block that is asked, and each block that is asked has an opening.
 pub record AreAsked (log : List RootCall) (low high : ℕ) (openings : List RawOpening) : Type 0 where
@@ -441,12 +398,7 @@ pub blocks-from_asked : (log : List RootCall) (low high : ℕ) (openings : List 
 unfolding committed_blocks
 blocks-from_asked log low high openings are =
     blocks-from_are (is_committed log) (low + 1) (high - low) openings
-    (record {
-      up = up-weaker (low + 1) (suc low) openings (omega arith) are.up;
-      each = each openings are.each;
-      other = λ n none from to. false_from_ne_true (is_committed log n)
-          (λ is. true≢false (sym (asked-from log low high n is (omega arith) (omega arith)) ∙ are.other n none));
-    })
+    (grind (arith, common_steps, up-weaker, each, false_from_ne_true, true≢false, asked-from) steps 20000)
   where
     each : (os : List RawOpening) → AllByRecursion (λ o. is_asked log low high o.block ≡ true) os
         → AllByRecursion (λ o. (is_committed log o.block ≡ true) × (o.block < (low + 1) + (high - low))) os
@@ -464,9 +416,7 @@ asked-from_blocks log low high openings is =
     record {
       up = up;
       each = each openings (up-each (suc low) openings up) are.each;
-      other = λ n none. false_from_ne_true (is_asked log low high n)
-          (λ asked. let parts = asked-parts log low high n asked in
-          true≢false (sym parts.0 ∙ are.other n none (omega (arith, parts.1)) (omega (arith, parts.1, parts.2))));
+      other = grind (arith, common_steps, false_from_ne_true, asked-parts, true≢false) steps 20000;
     }
   where
     each : (os : List RawOpening) → AllByRecursion (λ o. suc low ≤ o.block) os

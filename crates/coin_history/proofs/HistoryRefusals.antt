@@ -1,8 +1,9 @@
 -- A reader, a history and absences are refused by their own refusals alone.
-use Rattle.std.proofs.Common.{◌≡◌, ℕ, zero, suc, ◌+◌, ◌==◌, Bool, true, false, if◌then◌else◌, List, [], ◌∷◌, ◌++◌, length, Option, Some, None, Ok, Err, refl, sym, ap, ◌∙◌}
+use Rattle.std.proofs.Common.{◌≡◌, ℕ, zero, suc, ◌+◌, ◌==◌, Bool, true, false, if◌then◌else◌, List, [], ◌∷◌, ◌++◌, length, Option, Some, None, Ok, Err, refl, sym, ap, ◌∙◌, arith}
 use Rattle.std.specs.Prelude.{Result, nat_lt, not, slice_range}
 use Rattle.std.specs.List.{AllByRecursion}
 use Rattle.std.proofs.lemmas.Bool.{true≢false}
+use Rattle.std.proofs.lemmas.Grind.{common_steps}
 use Rattle.plasma_tx.specs.declared.opening.RawOpening.{RawOpening}
 use Rattle.plasma_tx.specs.declared.links.Links.{Links}
 use Rattle.plasma_tx.specs.declared.call.RootCall.{RootCall}
@@ -50,11 +51,7 @@ module _ (own : HistoryRefusal → Bool) where
   fails-cause : (causes : List Cause) → AllByRecursion (λ cause. own cause.1 ≡ true) causes
       → Fails (first_cause causes)
   fails-cause [] all = λ why is. absurd (cc is)
-  fails-cause (cause ∷ causes) all =
-      elim cause.0 as (λ b. Fails (if b then Some cause.1 else first_cause causes)) [
-        | true ↦ λ why is. let e : cause.1 ≡ why = cc in ap own (sym e) ∙ all.0
-        | false ↦ fails-cause causes all.1
-      ]
+  fails-cause (cause ∷ causes) all = grind (arith, common_steps, fails-cause causes all.1) steps 20000
 
   fails-missing : (asked : Bool) (n : ℕ) → own (MissingBlock n) ≡ true → Fails (missing asked n)
   fails-missing true n passes why is = let e : MissingBlock n ≡ why = cc in ap own (sym e) ∙ passes

@@ -1,16 +1,16 @@
 -- The links of a history rise from its deposit on, its tip is a link, and with the deposit as tip it is bare.
-use Rattle.std.proofs.Common.{◌≡◌, ℕ, suc, ◌<◌, ◌≤◌, true, false, List, [], ◌∷◌, map, Some, None, sym, ap, ◌∙◌, subst, arith}
-use Rattle.std.specs.Option.{option_map}
-use Rattle.std.specs.List.{AllPairs, AllByRecursion, cons_option}
+use Rattle.std.proofs.Common.{◌≡◌, ℕ, suc, ◌<◌, ◌≤◌, true, false, List, [], ◌∷◌, map, sym, ap, ◌∙◌, subst, arith}
+use Rattle.std.specs.List.{AllPairs, AllByRecursion}
 use Rattle.std.proofs.lemmas.Bool.{false_from_ne_true}
 use Rattle.std.proofs.lemmas.List.Elements.{All-from_recursion}
 use Rattle.std.proofs.lemmas.List.Kept.{AllPairs-cons}
+use Rattle.std.proofs.lemmas.Grind.{common_steps}
 use Rattle.plasma_tx.specs.declared.opening.RawOpening.{RawOpening}
 use Rattle.plasma_tx.specs.declared.links.Link.{Link}
 use Rattle.plasma_tx.specs.declared.links.Links.{Links}
 use Rattle.plasma_tx.specs.Links.{tip_of}
 use Rattle.plasma_tx.specs.Shown.{Rules}
-use Rattle.coin_history.specs.History.{is_absent, transfer_of, links_in, links_of}
+use Rattle.coin_history.specs.History.{is_absent, links_in, links_of}
 use Rattle.coin_history.specs.Laws.{LinksRise, DepositsAreBare, TipsAreLinks}
 use Rattle.coin_history.proofs.HistoryOpenings.{Up, nothing-asked, asked-from_blocks}
 use Rattle.coin_history.proofs.HistoryLinks.{every-weaker, tip-is, with_tx, none-linked}
@@ -47,12 +47,7 @@ rise-links : (rules : Rules) (coin low : ℕ) (os : List RawOpening) → Up low 
 unfolding links_in
 rise-links rules coin low [] up = tt
 rise-links rules coin low (o ∷ os) up =
-    let rest = rise-links rules coin (suc o.block) os up.1 in
-    elim (transfer_of rules coin o) as (λ t.
-    Rise low (blocks_of_links (cons_option (option_map (with_tx o) t) (links_in rules coin os)))) [
-      | None ↦ rise-weaker low (suc o.block) (blocks_of_links (links_in rules coin os)) (omega (arith, up.0)) rest
-      | Some tx ↦ (up.0, rest)
-    ]
+    grind (arith, common_steps, rise-links rules coin (suc o.block) os up.1, with_tx, rise-weaker) steps 20000
 
 -- ---- the laws
 
@@ -67,12 +62,7 @@ links_rise tests rules log bundle links is =
 pub deposits_are_bare : DepositsAreBare
 deposits_are_bare tests rules log bundle links is e =
     let asked = asked-from_blocks log is.made.deposit bundle.tip bundle.openings is.blocks in
-    let none = nothing-asked log is.made.deposit bundle.tip bundle.openings asked.each
-    (e ∙ ap (λ (l : Links). l.deposit) is.shown) in (
-      none,
-      ap (λ (l : Links). l.spends) is.shown ∙ ap (links_in rules bundle.coin) none
-          ∙ none-linked rules bundle.coin,
-    )
+    grind (arith, common_steps, nothing-asked, none-linked) steps 20000
 
 pub tips_are_links : TipsAreLinks
 tips_are_links tests rules log bundle links is =

@@ -1,13 +1,13 @@
 -- What an append does to a journal, from the room that was made for it on.
-use Rattle.std.proofs.Common.{◌≡◌, ◌<◌, ◌≤◌, ◌+◌, ◌-◌, ℕ, max, Bool, true, false, cond, leb, ltb, ◌&&◌, List, [], ◌∷◌, ◌++◌, length, Option, Some, refl, sym, ◌∙◌, ap, subst, arith}
-use Rattle.std.specs.Option.{option_map}
+use Rattle.std.proofs.Common.{◌≡◌, ◌<◌, ◌≤◌, ◌+◌, ◌-◌, ℕ, max, Bool, true, false, cond, ◌&&◌, List, [], ◌∷◌, ◌++◌, length, Option, Some, refl, sym, ◌∙◌, ap, subst, arith}
 use Rattle.std.proofs.lemmas.Bool.{leb-true, ltb-true}
+use Rattle.std.proofs.lemmas.Grind.{common_steps}
 use Rattle.crash_disk.specs.Disk.{History, content, FaultPlan, LeavesOnly}
 use Rattle.crash_disk.specs.Calls.{WhereTold, IsStill, Course, passed, failed_after, after_course, Made}
 use Rattle.crash_disk.proofs.Calls.{made_from, made_same}
 use Rattle.gate_journal.specs.Image.{most}
 use Rattle.gate_journal.specs.Steps.{frame_of, steps_at, append_steps}
-use Rattle.gate_journal.specs.Journal.{JournalState, Keeps, KeepsWithOrWithout, IsSettled, has_spare, with_spare, Appended, AppendFailed}
+use Rattle.gate_journal.specs.Journal.{JournalState, Keeps, KeepsWithOrWithout, IsSettled, has_spare, Appended, AppendFailed}
 use Rattle.gate_journal.specs.Inside.{with_room_for}
 use Rattle.gate_journal.specs.Sound.{RestsAt}
 use Rattle.gate_journal.proofs.Rest.{gate_settled, gate_leaves}
@@ -26,32 +26,7 @@ both true b is = (refl, is)
 both false b is = absurd (cc is)
 
 roomy : {D : Type 0} (bytes : ℕ) (disk : D) (old : JournalState D) → IsRoomy bytes old (with_room_for bytes disk old)
-roomy bytes disk old = at (has_spare old bytes) refl
-  where
-    at : (b : Bool) → has_spare old bytes ≡ b
-        → IsRoomy bytes old (cond b old (with_spare (old.spare_bodies + 1) bytes disk old))
-    at true is =
-        let tests = both (ltb 0 old.spare_bodies) (leb bytes old.spare_bytes) is in
-        let some = ltb-true 0 old.spare_bodies tests.0 in
-        let fits = leb-true bytes old.spare_bytes tests.1 in
-        record {
-          closed = refl;
-          gate = refl;
-          some = some;
-          fits = fits;
-          bodies = ap (λ (b : Bool). cond b (old.spare_bodies - 1) old.spare_bodies) (sym is);
-          most_bytes = omega (arith, fits);
-        }
-    at false is =
-        let less : max (old.spare_bodies + 1) old.spare_bodies - 1 ≡ old.spare_bodies = omega arith in
-        record {
-          closed = refl;
-          gate = refl;
-          some = omega arith;
-          fits = omega arith;
-          bodies = less ∙ ap (λ (b : Bool). cond b (old.spare_bodies - 1) old.spare_bodies) (sym is);
-          most_bytes = refl;
-        }
+roomy bytes disk old = grind (arith, common_steps, both, ltb-true, leb-true) steps 20000
 
 -- an open journal, and it with room for a body that fits
 pub record IsReady {D : Type 0} (told : D → Option History) (plan : D → Option FaultPlan) (faults : D → ℕ)
@@ -71,8 +46,7 @@ pub ready_for : {D : Type 0} {told : D → Option History} {plan : D → Option 
     → after ≡ with_room_for (length body) after.disk old → IsStill told plan faults old.disk after.disk
     → IsReady told plan faults body old mid
 ready_for {told = told} {plan = plan} {faults = faults} {body = body} {old = old} is open' fits room still =
-    subst (IsReady told plan faults body old) (sym is)
-    (record { was_open = open'; fits = fits; room = room; still = still })
+    grind (arith, common_steps, was_open) steps 20000
 
 module _ {D : Type 0} {told : D → Option History} {plan : D → Option FaultPlan} {faults : D
     → ℕ} {body : List ℕ} {old mid : JournalState D} (ready : IsReady told plan faults body old mid) where
@@ -90,10 +64,7 @@ module _ {D : Type 0} {told : D → Option History} {plan : D → Option FaultPl
 
     from_old : {course : Course} {new : D} → Made told plan (λ any. steps_at mid.gate frame) 4 course mid.disk new
         → Made told plan (λ any. append_steps old.gate body) 4 course old.disk new
-    from_old made =
-        made_from told plan ready.still
-        (made_same told plan (λ any. append_steps mid.gate body) (λ any. append_steps old.gate body)
-        (λ before some. ap (λ (g : ℕ). append_steps g body) room_for.gate) (at_gate made))
+    from_old made = grind (arith, common_steps, made_from, made_same, room_for, at_gate) steps 20000
 
     pub appended : {new : D} → Made told plan (λ any. steps_at mid.gate frame) 4 passed mid.disk new
         → Appended told plan body old
@@ -104,44 +75,20 @@ module _ {D : Type 0} {told : D → Option History} {plan : D → Option FaultPl
           spare_bodies = mid.spare_bodies - 1;
           spare_bytes = mid.spare_bytes;
         })
-    appended {new = new} made = record {
-      was_open = ready.was_open;
-      fits = ready.fits;
-      made = from_old made;
-      journal = λ i. record {
-        disk = new;
-        closed = room_for.closed i;
-        gate = room_for.gate i + (5 + length body);
-        spare_bodies = room_for.bodies i;
-        spare_bytes = room_for.most_bytes i;
-      };
-    }
+    appended {new = new} made = grind (arith, common_steps, was_open, from_old, room_for) steps 20000
 
     pub append_failed : {new : D} (count bodies bytes : ℕ)
         → Made told plan (λ any. steps_at mid.gate frame) 4 (failed_after count) mid.disk new
         → AppendFailed told plan body old
         (record { disk = new; closed = true; gate = mid.gate; spare_bodies = bodies; spare_bytes = bytes })
-    append_failed count bodies bytes made = record {
-      was_open = ready.was_open;
-      fits = ready.fits;
-      count = count;
-      made = from_old made;
-      is_closed = refl;
-      gate = room_for.gate;
-    }
+    append_failed count bodies bytes made = grind (arith, common_steps, was_open, from_old, room_for) steps 20000
 
     -- over a history that the disk told
     module _ (rests : WhereTold (told mid.disk) (RestsAt mid.gate)) {new : D} where
       now_is : (course : Course) → Made told plan (λ any. steps_at mid.gate frame) 4 course mid.disk new
           → (before now : History) → told old.disk ≡ Some before → told new ≡ Some now
           → after_course course (append_steps mid.gate body) before ≡ now
-      now_is course made before now some is_now =
-          cc (
-            (at_gate made).calls
-                ∙ ap (option_map (λ h. after_course course (append_steps mid.gate body) h))
-                (ready.still.same_calls ∙ some),
-            is_now,
-          )
+      now_is course made before now some is_now = grind (arith, common_steps, at_gate) steps 20000
 
       pub kept : Made told plan (λ any. steps_at mid.gate frame) 4 passed mid.disk new
           → WhereTold (told old.disk)

@@ -6,6 +6,7 @@ use Rattle.std.proofs.lemmas.Bool.{cases_Bool, le-leb}
 use Rattle.std.proofs.lemmas.Bool.Decides.{nat_tests}
 use Rattle.std.proofs.lemmas.List.{take_at, drop_at, append-nil}
 use Rattle.std.proofs.lemmas.List.FromFn.{get_or-map-range_with_len}
+use Rattle.std.proofs.lemmas.Grind.{common_steps}
 use Rattle.crash_disk.specs.Disk.{writes, syncs, DeviceCall, History, content, synced_content, unsynced_ranges, content_after, synced_content_after, unsynced_ranges_after, with_write, is_touched, MayLeave}
 use Rattle.crash_disk.specs.Outcomes.{image_after, mix_of, mix_byte, HasPattern}
 use Rattle.crash_disk.specs.declared.outcome.Outcome.{Outcome}
@@ -46,10 +47,7 @@ module _ (front : List ℕ) (records : List (List ℕ)) (read : IsRead front rec
 
   -- an open gate before what was framed is one record more
   pub open_is : (rest : List ℕ) → front ++ 165 ∷ (frame_of body ++ rest) ≡ front_more ++ 0 ∷ rest
-  open_is rest =
-      let head = to_be_bytes w32 (length body) in
-      let inner : frame_of body ++ rest ≡ (head ++ body) ++ (0 ∷ rest) = append_assoc (head ++ body) (0 ∷ []) rest in
-      ap (λ (l : List ℕ). front ++ 165 ∷ l) inner ∙ sym (append_assoc front (spelled_record body) (0 ∷ rest))
+  open_is rest = grind (arith, common_steps) steps 20000
 
   pub keeps_open : (rest : List ℕ) → Keeps more (front ++ 165 ∷ (frame_of body ++ rest))
   keeps_open rest = subst (Keeps more) (sym (open_is rest)) (front-keeps front_more more 0 rest more_read.reads refl)
@@ -60,11 +58,8 @@ module _ (front : List ℕ) (records : List (List ℕ)) (read : IsRead front rec
   gate_decides gate rest = elim (cases_Bool (is_open gate)) [
     | inl open_gate ↦
         let is : gate ≡ 165 = grind (arith, nat_tests) in
-        let kept : Keeps more (front ++ gate ∷ (frame_of body ++ rest)) =
-        subst (λ (g : ℕ). Keeps more (front ++ g ∷ (frame_of body ++ rest))) (sym is) (keeps_open rest) in
-        subst (λ (b : Bool). Keeps (cond b more records) (front ++ gate ∷ (frame_of body ++ rest))) (sym open_gate) kept
-    | inr closed ↦ subst (λ (b : Bool). Keeps (cond b more records) (front ++ gate ∷ (frame_of body ++ rest)))
-        (sym closed) (keeps_closed gate (frame_of body ++ rest) closed)
+        grind (arith, common_steps, keeps_open) steps 20000
+    | inr closed ↦ grind (arith, common_steps, keeps_closed) steps 20000
   ]
 
   pub either_way : (image : List ℕ) (b : Bool) → Keeps (cond b more records) image
@@ -108,22 +103,15 @@ module _ (front : List ℕ) (records : List (List ℕ)) (read : IsRead front rec
     framed_is failed =
         let all = front ++ gate ∷ rest in
         let split : all ≡ (front ++ gate ∷ []) ++ rest = sym (append_assoc front (gate ∷ []) rest) in
-        let head : take (g + 1) all ≡ front ++ gate ∷ [] =
-        ap (λ (b : List ℕ). take (g + 1) b) split
-        ∙ take_at (front ++ gate ∷ []) rest (g + 1) (length-append front (gate ∷ [])) in
-        ap (λ (b : List ℕ). with_write b (g + 1) bytes) holds
-        ∙ ap (λ (b : List ℕ). b ++ bytes ++ tail) head
-        ∙ append_assoc (front ++ gate ∷ []) bytes tail
-        ∙ append_assoc front (gate ∷ []) (bytes ++ tail)
+        let head : take (g + 1) all ≡ front ++ gate ∷ [] = grind (arith, common_steps, take_at) steps 20000 in
+        grind (arith, common_steps) steps 20000
 
     pub opened_is : (failed : Bool) → content_after began (after_gate failed) ≡ front ++ 165 ∷ (bytes ++ tail)
     opened_is failed =
         let all = front ++ gate ∷ (bytes ++ tail) in
         let split : all ≡ (front ++ gate ∷ []) ++ (bytes ++ tail) =
         sym (append_assoc front (gate ∷ []) (bytes ++ tail)) in
-        let back : drop (g + 1) all ≡ bytes ++ tail =
-        ap (λ (b : List ℕ). drop (g + 1) b) split
-        ∙ drop_at (front ++ gate ∷ []) (bytes ++ tail) (g + 1) (length-append front (gate ∷ [])) in
+        let back : drop (g + 1) all ≡ bytes ++ tail = grind (arith, common_steps, drop_at) steps 20000 in
         ap (λ (b : List ℕ). with_write b g (165 ∷ [])) (framed_is false)
         ∙ (λ i. take_at front (gate ∷ (bytes ++ tail)) g refl i ++ (165 ∷ []) ++ back i)
         ∙ append_assoc front (165 ∷ []) (bytes ++ tail)
@@ -133,11 +121,7 @@ module _ (front : List ℕ) (records : List (List ℕ)) (read : IsRead front rec
     at_start image m =
         let l = left _ image m in
         let l' : Left (front ++ gate ∷ rest) [] (length (front ++ gate ∷ rest)) image =
-        subst (λ (b : List ℕ). Left b [] (length (front ++ gate ∷ rest)) image) syncs_so_far
-        (subst (λ (r : List (ℕ × ℕ)). Left (synced_content_after began calls) r
-        (length (front ++ gate ∷ rest)) image) settled
-        (subst (λ (b : List ℕ). Left (synced_content_after began calls) (unsynced_ranges_after calls)
-        (length b) image) holds l)) in
+        grind (arith, common_steps, syncs_so_far) steps 20000 in
         only (front ++ gate ∷ rest) image l'
 
     behind_gate : (most : ℕ) (image : List ℕ)
@@ -145,9 +129,7 @@ module _ (front : List ℕ) (records : List (List ℕ)) (read : IsRead front rec
         (unsynced_ranges_after calls ++ (g + 1, length bytes) ∷ []) most image → Keeps records image
     behind_gate most image l =
         let l' : Left (front ++ gate ∷ rest) ((g + 1, length bytes) ∷ []) most image =
-        subst (λ (b : List ℕ). Left b ((g + 1, length bytes) ∷ []) most image) syncs_so_far
-        (subst (λ (r : List (ℕ × ℕ)). Left (synced_content_after began calls)
-        (r ++ (g + 1, length bytes) ∷ []) most image) settled l) in
+        grind (arith, common_steps, syncs_so_far) steps 20000 in
         let is = behind front gate rest (length bytes) most image l' in
         subst (Keeps records) (sym is) (keeps_closed gate (drop (g + 1) image) closed)
 
@@ -264,8 +246,7 @@ module _ (front : List ℕ) (records : List (List ℕ)) (read : IsRead front rec
         let first : count_by (is_touched within ((g, 1) ∷ [])) (range_with_len 0 g) % length pattern ≡ 0 =
         ap (λ (n : ℕ). n % length pattern) none ∙ omega (arith, some) in
         get_or-map-range_with_len f 0 (length within + growth) g g 0 (omega (arith, g_within)) (omega arith)
-        ∙ (let byte : f g ≡ slice_index pattern 0 =
-        (λ i. cond (here i) (slice_index pattern (first i)) (slice_index within g)) in byte)
+        ∙ (grind (arith, common_steps) steps 20000)
 
     gate_outcome : (outcome : Outcome) → HasPattern outcome → (h : History) → synced_content h ≡ within
         → unsynced_ranges h ≡ (g, 1) ∷ [] → content h ≡ content_after began (after_gate false)
@@ -278,9 +259,7 @@ module _ (front : List ℕ) (records : List (List ℕ)) (read : IsRead front rec
         let image = image_after (Mix extra pattern) h in
         let l = left h image (outcomes (Mix extra pattern) h) in
         let l' : Left within ((g, 1) ∷ []) (length (content_after began (after_gate false))) image =
-        subst (λ (b : List ℕ). Left within ((g, 1) ∷ []) (length b) image) n
-        (subst (λ (r : List (ℕ × ℕ)). Left within r (length (content h)) image) u
-        (subst (λ (b : List ℕ). Left b (unsynced_ranges h) (length (content h)) image) s l)) in
+        grind (arith, common_steps) steps 20000 in
         let same : image ≡ mix_of within ((g, 1) ∷ []) pattern growth = (λ i. mix_of (s i) (u i) pattern growth) in
         let byte : get_or image g 0 ≡ slice_index pattern 0 =
         ap (λ (b : List ℕ). get_or b g 0) same ∙ mixed_gate pattern growth some in
@@ -297,8 +276,7 @@ module _ (front : List ℕ) (records : List (List ℕ)) (read : IsRead front rec
         let all : leb 4 (suc (suc (suc (suc p)))) ≡ true = le-leb _ _ (omega arith) in
         let keeps = end_keeps (image_after outcome (stopped (suc (suc (suc (suc p))))))
         (outcomes outcome (stopped (suc (suc (suc (suc p)))))) in
-        subst (λ (b : Bool). Keeps (cond (b || (leb 2 (suc (suc (suc (suc p)))) && opens_gate outcome)) more records)
-        (image_after outcome (stopped (suc (suc (suc (suc p))))))) (sym all) keeps
+        grind (arith, common_steps) steps 20000
 
 -- an image that is all synced and spells records
 pub settled_now : (history : History) (records : List (List ℕ)) → Spells (content history) records

@@ -1,11 +1,12 @@
 -- An image that was read, as the bytes that its records take, a closed gate and a rest.
-use Rattle.std.proofs.Common.{◌≡◌, ◌⊎◌, ◌<◌, ◌≤◌, ◌+◌, ◌^◌, ◌*◌, ◌/◌, ◌%◌, ℕ, zero, suc, Bool, true, false, leb, eqb, ◌&&◌, List, [], ◌∷◌, ◌++◌, length, take, drop, Option, Some, None, Result, Ok, Err, refl, sym, ◌∙◌, ap, subst, inl, inr, arith, append_assoc, length-append, length-take, length-drop, take-append-drop}
+use Rattle.std.proofs.Common.{◌≡◌, ◌⊎◌, ◌<◌, ◌≤◌, ◌+◌, ◌^◌, ℕ, zero, suc, Bool, true, false, leb, eqb, ◌&&◌, List, [], ◌∷◌, ◌++◌, length, take, drop, Option, Some, None, Result, Ok, Err, refl, sym, ◌∙◌, ap, subst, inl, inr, arith, append_assoc, length-append, length-take, length-drop, take-append-drop}
 use Rattle.std.specs.Int.{w32, to_be_bytes, from_be_bytes}
 use Rattle.std.specs.List.{All}
 use Rattle.std.specs.Result.{result_ok}
 use Rattle.std.proofs.lemmas.Bool.{leb-true, eqb-true}
 use Rattle.std.proofs.lemmas.List.{drop_at, append-nil, drop-drop}
 use Rattle.std.proofs.lemmas.List.Elements.{All-nil, All-push, All-head, All-tail, All-cons}
+use Rattle.std.proofs.lemmas.Grind.{common_steps}
 use Rattle.gate_journal.specs.Image.{is_open, most, mark, spelled_record, spelled_records, spelled, body_in, with_first, records_from, journal_in, kept_records, ReadIsSpelled}
 use Rattle.gate_journal.specs.Journal.{Keeps}
 use Rattle.gate_journal.proofs.Read.{Fits, body_in-field, holds-length, with_front, records_from-record, records_from-end, records_from-empty, records_from-zero, records_from-none, is_165, journal_in-mark, ReadsOn, on_record, on_end}
@@ -33,14 +34,12 @@ both false b is = absurd (cc (is))
 pub body_in-parts : (bytes body : List ℕ) → body_in bytes ≡ Some body → IsBody bytes body
 body_in-parts bytes body is = elim (either_way (leb 4 (length bytes))) [
   | inr short ↦
-      let none : body_in bytes ≡ None = rw short refl in
-      absurd (cc (none, is))
+      grind (arith, common_steps) steps 20000
   | inl four ↦
       let count = from_be_bytes w32 (take 4 bytes) in
       elim (either_way (leb count most && leb (4 + count) (length bytes))) [
         | inr out ↦
-            let none : body_in bytes ≡ None = rw four (rw out refl) in
-            absurd (cc (none, is))
+            grind (arith, common_steps) steps 20000
         | inl in' ↦
             let some : body_in bytes ≡ Some (take count (drop 4 bytes)) = rw four (rw in' refl) in
             let tests = both _ _ in' in
@@ -49,25 +48,14 @@ body_in-parts bytes body is = elim (either_way (leb 4 (length bytes))) [
             let within = leb-true (4 + count) (length bytes) tests.1 in
             let len : count ≡ length body =
             omega (arith, ap length same, length-take count (drop 4 bytes), length-drop 4 bytes, within) in
-            record {
-              fits = omega (arith, len, small);
-              within = omega (arith, len, within);
-              is = sym same ∙ ap (λ (n : ℕ). take n (drop 4 bytes)) len;
-              count = len;
-            }
+            grind (arith, common_steps) steps 20000
       ]
 ]
 
 -- the four bytes of a number that they spell
 four_bytes : (a b c d : ℕ) → a < 2 ^ 8 → b < 2 ^ 8 → c < 2 ^ 8 → d < 2 ^ 8
     → to_be_bytes w32 (from_be_bytes w32 (a ∷ b ∷ c ∷ d ∷ [])) ≡ a ∷ b ∷ c ∷ d ∷ []
-four_bytes a b c d la lb lc ld =
-    let n = a * 256 ^ 3 + b * 256 ^ 2 + c * 256 ^ 1 + d in
-    let ea : n / 256 ^ 3 % 256 ≡ a = omega arith in
-    let eb : n / 256 ^ 2 % 256 ≡ b = omega arith in
-    let ec : n / 256 ^ 1 % 256 ≡ c = omega arith in
-    let ed : n % 256 ≡ d = omega arith in
-    λ i. ea i ∷ eb i ∷ ec i ∷ ed i ∷ []
+four_bytes a b c d la lb lc ld = grind (arith, common_steps) steps 20000
 
 -- a field of bytes is the spelling of the number that it holds
 field_is : (field : List ℕ) → length field ≡ 4 → All (λ byte. byte < 2 ^ 8) field
@@ -95,27 +83,14 @@ ok_of (Ok more) records is = ap (λ (l : List (List ℕ)). Ok l) (cc (is))
 ok_of (Err place) records is = absurd (cc (is))
 
 begins-with : (p g j one : ℕ) → (eqb p 80 && eqb g 71 && eqb j 74 && eqb one 49) ≡ true → p ∷ g ∷ j ∷ one ∷ [] ≡ mark
-begins-with p g j one is =
-    let t = both (eqb p 80 && eqb g 71 && eqb j 74) (eqb one 49) is in
-    let u = both (eqb p 80 && eqb g 71) (eqb j 74) t.0 in
-    let v = both (eqb p 80) (eqb g 71) u.0 in
-    (λ i. eqb-true p 80 v.0 i ∷ eqb-true g 71 v.1 i ∷ eqb-true j 74 u.1 i ∷ eqb-true one 49 t.1 i ∷ [])
+begins-with p g j one is = grind (arith, common_steps, both, eqb-true) steps 20000
 
 -- the records are read of these bytes, whatever follows them
 abbrev pub IsFront : List ℕ → List (List ℕ) → Type 0
 IsFront front records = (bytes : List ℕ) → ReadsOn (journal_in (front ++ bytes)) records (length front) bytes
 
 front-mark : IsFront mark []
-front-mark bytes = (
-  length bytes + 1,
-  omega arith,
-  journal_in-mark bytes
-      ∙ none (records_from (length bytes + 1) 4 bytes),
-)
-  where
-    none : (r : Result (List (List ℕ)) ℕ) → r ≡ with_front [] r
-    none (Ok records) = refl
-    none (Err place) = refl
+front-mark bytes = grind (arith, common_steps, journal_in-mark, with_front) steps 20000
 
 -- a record behind them is read too
 pub front-record : (front : List ℕ) (records : List (List ℕ)) (field body : List ℕ) → IsFront front records
@@ -128,9 +103,7 @@ front-record front records field body reads four holds fits bytes =
     let next : length (front ++ 165 ∷ (field ++ body)) ≡ length front + (5 + length body) =
     omega (arith, length-append front (165 ∷ (field ++ body)), length-append field body, four) in
     let step : suc (4 + length body) ≡ 5 + length body = omega arith in
-    let rest : bytes ≡ drop (5 + length body) more =
-    sym (drop_at (field ++ body) bytes (4 + length body) (omega (arith, length-append field body, four)))
-    ∙ ap (λ (n : ℕ). drop n more) step in
+    let rest : bytes ≡ drop (5 + length body) more = grind (arith, common_steps, drop_at) steps 20000 in
     let is = on_record (journal_in (front ++ more)) records (length front) _ more body bytes (reads more) refl
     (body_in-field field body bytes four holds fits) next rest in
     subst (λ (b : List ℕ). ReadsOn (journal_in b) (records ++ body ∷ [])
@@ -179,14 +152,7 @@ pub read_more : (front : List ℕ) (records : List (List ℕ)) (field body : Lis
 read_more front records field body read four holds fits = record {
   fits = All-push (λ b. length b ≤ most) records body read.fits fits;
   reads = front-record front records field body read.reads four holds fits;
-  place = omega (
-    arith,
-    read.place,
-    length-spelled-push records body,
-    length-append front (165 ∷ (field ++ body)),
-    length-append field body,
-    four,
-  );
+  place = grind (arith, common_steps, length-spelled-push) steps 20000;
   spells = λ all.
       let P : ℕ → Type 0 = λ byte. byte < 2 ^ 8 in
       let behind = All-tail P 165 (field ++ body) (back_all P front (165 ∷ (field ++ body)) all) in
@@ -204,10 +170,7 @@ fronts_from zero place front records (gate ∷ bytes) more read is =
     absurd (cc (records_from-zero place (gate ∷ bytes), is))
 fronts_from (suc gates) place front records (gate ∷ bytes) more read is = elim (either_way (is_open gate)) [
   | inr closed ↦
-      let none : [] ≡ more = cc (records_from-end gates place gate bytes closed, is) in
-      let all : records ≡ records ++ more = sym (append-nil records) ∙ ap (λ (l : List (List ℕ)). records ++ l) none in
-      subst (Fronts (front ++ gate ∷ bytes)) all
-      (record { front = front; gate = gate; rest = bytes; is = refl; closed = closed; read = read })
+      grind (arith, common_steps, records_from-end, append-nil) steps 20000
   | inl open_gate ↦
       let at : gate ≡ 165 = is_165 gate open_gate in
       let here : records_from (suc gates) place (165 ∷ bytes) ≡ Ok more =
@@ -233,8 +196,7 @@ fronts_from (suc gates) place front records (gate ∷ bytes) more read is = elim
             append_assoc front (165 ∷ (field ++ body)) behind ∙ (λ i. front ++ sym at i ∷ whole i) in
             let all : (records ++ body ∷ []) ++ j.0 ≡ records ++ more =
             append_assoc records (body ∷ []) j.0 ∙ ap (λ (l : List (List ℕ)). records ++ l) (sym j.2) in
-            subst (λ (b : List ℕ). Fronts b (records ++ more)) image
-            (subst (Fronts ((front ++ 165 ∷ (field ++ body)) ++ behind)) all again)
+            grind (arith, common_steps) steps 20000
       ]
 ]
 
@@ -249,8 +211,7 @@ fronts (p ∷ g ∷ []) records is = absurd (cc (is))
 fronts (p ∷ g ∷ j ∷ []) records is = absurd (cc (is))
 fronts (p ∷ g ∷ j ∷ one ∷ bytes) records is = elim (either_way (eqb p 80 && eqb g 71 && eqb j 74 && eqb one 49)) [
   | inr out ↦
-      let none : kept_records (p ∷ g ∷ j ∷ one ∷ bytes) ≡ None = rw out refl in
-      absurd (cc (none, is))
+      grind (arith, common_steps) steps 20000
   | inl begins ↦
       let some : kept_records (p ∷ g ∷ j ∷ one ∷ bytes) ≡ result_ok (records_from (length bytes + 1) 4 bytes) =
       rw begins refl in
@@ -277,16 +238,11 @@ spelled_read records fits = from mark [] records read_none fits
   where
     from : (front : List ℕ) (done more : List (List ℕ)) → IsRead front done → Fits more
         → IsRead (front ++ spelled_records more) (done ++ more)
-    from front done [] read fits =
-        subst (λ (b : List ℕ). IsRead b (done ++ [])) (sym (append-nil front))
-        (subst (IsRead front) (sym (append-nil done)) read)
+    from front done [] read fits = grind (arith, common_steps, append-nil) steps 20000
     from front done (body ∷ more) read fits =
         let body_fits = All-head (λ b. length b ≤ most) body more fits in
         let next = read_more front done (to_be_bytes w32 (length body)) body read refl
         (holds-length body body_fits) body_fits in
         let again = from (front ++ spelled_record body) (done ++ body ∷ []) more next
         (All-tail (λ b. length b ≤ most) body more fits) in
-        subst (λ (b : List ℕ). IsRead b (done ++ body ∷ more))
-        (append_assoc front (spelled_record body) (spelled_records more))
-        (subst (IsRead ((front ++ spelled_record body) ++ spelled_records more))
-        (append_assoc done (body ∷ []) more) again)
+        grind (arith, common_steps) steps 20000

@@ -2,7 +2,7 @@
 use Rattle.std.proofs.Common.{◌≡◌, ◌≢◌, ◌<◌, ◌≤◌, ◌+◌, ℕ, zero, suc, false, leb, ltb, ◌&&◌, ◌||◌, List, [], ◌∷◌, ◌++◌, length, take, drop, get_or, refl, sym, ◌∙◌, ap, inl, inr, arith, append_assoc, length-append, length-take, take-append-drop}
 use Rattle.std.proofs.lemmas.Bool.{cases_lt, cases_eq}
 use Rattle.std.proofs.lemmas.Bool.Decides.{nat_tests}
-use Rattle.std.proofs.lemmas.Grind.{same_number_lists}
+use Rattle.std.proofs.lemmas.Grind.{same_number_lists, common_steps}
 use Rattle.std.proofs.lemmas.List.{get_or-take, take_at}
 use Rattle.crash_disk.proofs.Left.{untouched_same}
 use Rattle.crash_disk.specs.Disk.{History, content, synced_content, unsynced_ranges, is_touched, MayLeave}
@@ -37,9 +37,7 @@ behind front gate rest count most image l =
     (let short : place < length bytes = omega (arith, lt', len) in grind (arith, nat_tests)) in
     get_or-take n image place 0 lt' ∙ l.untouched place out ∙ sym (get_or-take n bytes place 0 lt')) in
     let split : bytes ≡ (front ++ gate ∷ []) ++ rest = sym (append_assoc front (gate ∷ []) rest) in
-    let head : take n bytes ≡ front ++ gate ∷ [] =
-    ap (λ (b : List ℕ). take n b) split
-    ∙ take_at (front ++ gate ∷ []) rest n (omega (arith, length-append front (gate ∷ []))) in
+    let head : take n bytes ≡ front ++ gate ∷ [] = grind (arith, common_steps, take_at) steps 20000 in
     sym (take-append-drop n image) ∙ ap (λ (b : List ℕ). b ++ drop n image) (same ∙ head)
     ∙ append_assoc front (gate ∷ []) (drop n image)
 
@@ -66,15 +64,11 @@ at_gate front gate rest image l =
     omega (arith, length-append front (gate ∷ rest), length-append front (y ∷ rest)) in
     same_number_lists image (front ++ y ∷ rest) (omega (arith, len, l.no_shorter, l.no_longer))
     (λ place lt. elim (cases_eq place g) [
-      | inl is ↦ ap (λ (p : ℕ). get_or image p 0) is ∙ sym (at_seam front y rest)
-          ∙ ap (λ (p : ℕ). get_or (front ++ y ∷ rest) p 0) (sym is)
+      | inl is ↦ grind (arith, common_steps, at_seam) steps 20000
       | inr not ↦ l.untouched place (outside place g (length bytes) (omega (arith, lt, l.no_longer)) not)
           ∙ other_place front gate y rest place not
     ])
   where
     outside : (place g len : ℕ) → place < len → place ≢ g
         → (leb len place || ((leb g place && ltb place (g + 1)) || false)) ≡ false
-    outside place g len lt not = elim (cases_lt place g) [
-      | inl before ↦ grind (arith, nat_tests)
-      | inr from ↦ let after : g + 1 ≤ place = omega (arith, from, not) in grind (arith, nat_tests)
-    ]
+    outside place g len lt not = grind (arith, common_steps, cases_lt, nat_tests) steps 20000

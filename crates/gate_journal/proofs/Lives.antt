@@ -1,9 +1,10 @@
 -- What a journal keeps through its life.
-use Rattle.std.proofs.Common.{◌≡◌, ◌≤◌, ◌||◌, ℕ, Bool, true, false, cond, ltb, List, [], ◌∷◌, ◌++◌, length, Option, Some, None, is_some, refl, sym, ◌∙◌, ap, subst, inl, inr, append_assoc}
+use Rattle.std.proofs.Common.{◌≡◌, ◌≤◌, ◌||◌, ℕ, Bool, true, false, cond, List, [], ◌∷◌, ◌++◌, length, Option, Some, None, refl, sym, ◌∙◌, ap, subst, inl, inr, append_assoc, arith}
 use Rattle.std.specs.Option.{option_and_then}
 use Rattle.std.specs.Result.{result_ok}
 use Rattle.std.proofs.lemmas.List.{append-nil}
 use Rattle.std.proofs.lemmas.Option.{option_and_then_some}
+use Rattle.std.proofs.lemmas.Grind.{common_steps}
 use Rattle.crash_disk.specs.Disk.{History, content, MayLeave}
 use Rattle.crash_disk.specs.Calls.{Course, passed, failed_after, stopped_after}
 use Rattle.crash_disk.proofs.Left.{content_may_be_left, fresh_disk_leaves_itself}
@@ -39,10 +40,7 @@ module _ (are : List (List ℕ) → Bool) where
 
   pub in_keeps : (image : List ℕ) (records : List (List ℕ)) → records_in are image ≡ Some records
       → Keeps records image × (are records ≡ true)
-  in_keeps image records is =
-      option_and_then_some (λ r. cond (are r) (Some r) None) (kept_records image) records is (λ kept keeps some.
-      let parts = of_kind kept records (are kept) refl some in
-      (keeps ∙ ap (λ (l : List (List ℕ)). Some l) parts.0, subst (λ (l : List (List ℕ)). are l ≡ true) parts.0 parts.1))
+  in_keeps image records is = grind (arith, common_steps, option_and_then_some, of_kind) steps 20000
 
   -- each image of a journal at rest keeps its records
   pub rest_stays : (history : History) (records : List (List ℕ)) → AtRest history records → are records ≡ true
@@ -58,11 +56,7 @@ module _ (are : List (List ℕ) → Bool) where
         → AtRest life.history records
 
   none_right : (life : Life) → life.records ≡ None → IsRight life
-  none_right life none = record {
-    kind = λ records some. absurd (cc (none, some));
-    stays = λ records some. absurd (cc (none, some));
-    rests = λ records some open'. absurd (cc (none, some));
-  }
+  none_right life none = grind (arith, common_steps) steps 20000
 
   rest_right : (life : Life) (records : List (List ℕ)) → life.records ≡ Some records → AtRest life.history records
       → are records ≡ true → IsRight life
@@ -128,11 +122,7 @@ module _ (are : List (List ℕ) → Bool) where
       none_right (after_event are (opens (failed_after count)) life) refl
   right_after (opens (stopped_after count)) life right may =
       none_right (after_event are (opens (stopped_after count)) life) refl
-  right_after (appends body course) life right may =
-      let old = may.2.0 in
-      let is = as_open life old may.2.1 may.1 in
-      subst (λ (l : Life). IsRight (after_event are (appends body course) l)) (sym is)
-      (append_right life.history old body may.0 (right.rests old may.2.1 may.1) (right.kind old may.2.1) may.2.2 course)
+  right_after (appends body course) life right may = grind (arith, common_steps, as_open, append_right) steps 20000
   right_after (crashes image) life right may = none_right (after_event are (crashes image) life) refl
 
   pub rights : (disk : History) (events : List Event) → MayAllCome are (shut disk) events
@@ -171,9 +161,7 @@ module _ (are : List (List ℕ) → Bool) where
       → is_made (content history) ≡ true
   stay_made records history stay =
       let kept = stay (content history) (content_may_be_left history) in
-      let some : is_some (kept_records (content history)) ≡ true =
-      ap is_some (in_keeps (content history) kept.0 kept.1).0 in
-      or_true (ltb 5 (length (content history))) (is_some (kept_records (content history))) some
+      grind (arith, common_steps, in_keeps, or_true) steps 20000
     where
       or_true : (a b : Bool) → b ≡ true → (a || b) ≡ true
       or_true true b is = refl
@@ -234,8 +222,7 @@ module _ (are : List (List ℕ) → Bool) where
       record {
         right = right;
         stay = right.stays records is;
-        goes_on = λ others also.
-            (let same : records ≡ others = cc (is, also) in subst (Continue records) same (itself records));
+        goes_on = grind (arith, common_steps, itself) steps 20000;
       })
 
 pub records_stay : RecordsStay
@@ -257,11 +244,7 @@ appended_records_stay are disk earlier later records body may is =
 
 pub made_journals_stay : MadeJournalsStay
 made_journals_stay are disk earlier later may stay =
-    let keeping = keeping_all are disk earlier later [] may (λ may_earlier. record {
-      right = rights are disk earlier may_earlier;
-      stay = stay;
-      goes_on = λ others is. (others, refl);
-    }) in
+    let keeping = keeping_all are disk earlier later [] may (grind (arith, common_steps, rights) steps 20000) in
     let now = (after_events are (shut disk) (later ++ earlier)).history in
     let kept = keeping.stay (content now) (content_may_be_left now) in
     let keeps = (in_keeps are (content now) kept.0 kept.1).0 in

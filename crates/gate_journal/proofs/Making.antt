@@ -1,16 +1,16 @@
 -- The making of a journal.
-use Rattle.std.proofs.Common.{◌≡◌, ◌≢◌, ◌<◌, ◌≤◌, ◌+◌, ℕ, Bool, true, false, cond, not, ltb, eqb, ◌||◌, ◌&&◌, List, [], ◌∷◌, ◌++◌, length, take, drop, Option, Some, None, Ok, Err, is_some, refl, sym, ◌∙◌, ap, subst, inl, inr, arith}
+use Rattle.std.proofs.Common.{◌≡◌, ◌≢◌, ◌<◌, ◌≤◌, ◌+◌, ℕ, Bool, true, false, cond, not, ltb, eqb, List, [], ◌∷◌, ◌++◌, length, take, drop, Option, Some, None, Ok, Err, is_some, refl, sym, ◌∙◌, ap, subst, arith}
 use Rattle.std.proofs.lemmas.Bool.{cases_Bool, cases_lt, lt-ltb}
 use Rattle.std.proofs.lemmas.Bool.Decides.{nat_tests}
 use Rattle.std.proofs.lemmas.List.{drop_all, take_all}
-use Rattle.std.proofs.lemmas.List.Elements.{All-nil}
 use Rattle.std.specs.Option.{option_map}
 use Rattle.std.specs.Result.{result_ok}
+use Rattle.std.proofs.lemmas.Grind.{common_steps}
 use Rattle.crash_disk.specs.Disk.{Step, History, content, writes, reads, asks_length, syncs, with_write, with_call, FaultPlan}
 use Rattle.crash_disk.specs.Calls.{WhereTold, Called, passed, failed_after, with_made, Made}
 use Rattle.crash_disk.proofs.Calls.{later, made_over, made_there, made_none, made_fault, made_more, made_after, made_within}
 use Rattle.crash_disk.proofs.Left.{synced_content_is_left}
-use Rattle.gate_journal.specs.Image.{is_open, begins_open, after_mark, records_from, kept_records, most, Spells}
+use Rattle.gate_journal.specs.Image.{begins_open, after_mark, records_from, kept_records, Spells}
 use Rattle.gate_journal.specs.Journal.{Keeps}
 use Rattle.gate_journal.specs.Make.{empty, is_made, look_steps, make_steps, IsFresh, IsBlank, Makes}
 use Rattle.gate_journal.specs.declared.refusal.JournalRefusal.TheVariants.{NoMemory}
@@ -25,31 +25,15 @@ length-after_mark [] bytes is = absurd (cc (is))
 length-after_mark (p ∷ []) bytes is = absurd (cc (is))
 length-after_mark (p ∷ g ∷ []) bytes is = absurd (cc (is))
 length-after_mark (p ∷ g ∷ j ∷ []) bytes is = absurd (cc (is))
-length-after_mark (p ∷ g ∷ j ∷ one ∷ rest) bytes is =
-    elim (cases_Bool (eqb p 80 && eqb g 71 && eqb j 74 && eqb one 49)) [
-      | inl yes' ↦
-          let some : after_mark (p ∷ g ∷ j ∷ one ∷ rest) ≡ Some rest = rw yes' refl in
-          let same : rest ≡ bytes = cc (some, is) in
-          omega (arith, ap length same)
-      | inr no' ↦
-          let none : after_mark (p ∷ g ∷ j ∷ one ∷ rest) ≡ None = rw no' refl in
-          absurd (cc (none, is))
-    ]
+length-after_mark (p ∷ g ∷ j ∷ one ∷ rest) bytes is = grind (arith, common_steps, cases_Bool) steps 20000
 
 -- a gate alone ends a journal where it is closed
 gate_alone : (bytes : List ℕ) → length bytes ≡ 1
     → is_some (result_ok (records_from (length bytes + 1) 4 bytes)) ≡ not (begins_open bytes)
 gate_alone [] one = absurd (omega (arith, one))
 gate_alone (g ∷ b ∷ bytes) one = absurd (omega (arith, one))
-gate_alone (g ∷ []) one = elim (cases_Bool (is_open g)) [
-  | inl open_gate ↦
-      let at : records_from 2 4 (g ∷ []) ≡ Err 4 =
-      ap (λ (x : ℕ). records_from 2 4 (x ∷ [])) (is_165 g open_gate) ∙ records_from-none 1 4 [] refl in
-      rw at (rw open_gate refl)
-  | inr closed ↦
-      let at : records_from 2 4 (g ∷ []) ≡ Ok [] = records_from-end 1 4 g [] closed in
-      rw at (rw closed refl)
-]
+gate_alone (g ∷ []) one =
+    grind (arith, common_steps, cases_Bool, is_165, records_from-none, records_from-end) steps 20000
 
 pub five : (image bytes : List ℕ) → length image ≡ 5 → after_mark image ≡ Some bytes
     → is_some (kept_records image) ≡ not (begins_open bytes)
@@ -66,16 +50,7 @@ short image lt = at (after_mark image) refl
     at (Some (b ∷ bytes)) is = absurd (omega (arith, lt, length-after_mark image (b ∷ bytes) is))
 
 pub made_otherwise : (image : List ℕ) (len : ℕ) → len ≡ length image → len ≢ 5 → ltb 5 len ≡ is_made image
-made_otherwise image len is not_five = elim (cases_lt 5 len) [
-  | inl more ↦ lt-ltb 5 len more
-      ∙ sym (ap (λ (b : Bool). b || is_some (kept_records image)) (lt-ltb 5 (length image) (omega (arith, more, is))))
-  | inr less ↦
-      let fewer : length image < 5 = omega (arith, less, is, not_five) in
-      let none = short image fewer in
-      let out : ltb 5 len ≡ false = grind (arith, nat_tests) in
-      let out' : ltb 5 (length image) ≡ false = grind (arith, nat_tests) in
-      out ∙ sym (rw out' none)
-]
+made_otherwise image len is not_five = grind (arith, common_steps, cases_lt, lt-ltb, short, nat_tests) steps 20000
 
 pub made_five : (image : List ℕ) → length image ≡ 5 → is_made image ≡ is_some (kept_records image)
 made_five image len = (let out : ltb 5 (length image) ≡ false = grind (arith, nat_tests) in rw out refl)
@@ -85,54 +60,33 @@ pub empty_written : (old : List ℕ) → length old ≤ 5 → with_write old 0 e
 empty_written old le = ap (λ (l : List ℕ). empty ++ l) (drop_all 5 old le)
 
 pub not_made : (image : List ℕ) → is_made image ≡ false → length image ≤ 5
-not_made image is = elim (cases_lt 5 (length image)) [
-  | inl more ↦ absurd (cc (sym (ap (λ (b : Bool). b || is_some (kept_records image)) (lt-ltb 5 (length image) more))
-      ∙ is))
-  | inr less ↦ less
-]
+not_made image is = grind (arith, common_steps, cases_lt, lt-ltb) steps 20000
 
 -- at most five bytes that are made spell no records
 pub short_blank : (image : List ℕ) → length image ≤ 5 → IsBlank image
 short_blank image le = record { short = le; none = λ made. at (after_mark image) refl (spells made) }
   where
     spells : is_made image ≡ true → is_some (kept_records image) ≡ true
-    spells made = (let out : ltb 5 (length image) ≡ false =
-        grind (arith, nat_tests) in sym (ap (λ (b : Bool). b || is_some (kept_records image)) out) ∙ made)
+    spells made = grind (arith, common_steps, nat_tests) steps 20000
 
     at : (o : Option (List ℕ)) → after_mark image ≡ o → is_some (kept_records image) ≡ true → Keeps [] image
     at None is some = (let none : kept_records image ≡ None = rw is refl in cc (ap is_some none, some))
-    at (Some []) is some = (let none : kept_records image ≡ None =
-        rw is (rw (records_from-empty 1 4) refl) in cc (ap is_some none, some))
-    at (Some (g ∷ [])) is some = elim (cases_Bool (is_open g)) [
-      | inl open_gate ↦
-          let from : records_from 2 4 (g ∷ []) ≡ Err 4 =
-          ap (λ (x : ℕ). records_from 2 4 (x ∷ [])) (is_165 g open_gate) ∙ records_from-none 1 4 [] refl in
-          let none : kept_records image ≡ None = rw is (rw from refl) in
-          cc (ap is_some none, some)
-      | inr closed ↦
-          let from : records_from 2 4 (g ∷ []) ≡ Ok [] = records_from-end 1 4 g [] closed in
-          rw is (rw from refl)
-    ]
+    at (Some []) is some = grind (arith, common_steps, records_from-empty) steps 20000
+    at (Some (g ∷ [])) is some =
+        grind (arith, common_steps, cases_Bool, is_165, records_from-none, records_from-end) steps 20000
     at (Some (g ∷ b ∷ bytes)) is some = absurd (omega (arith, le, length-after_mark image (g ∷ b ∷ bytes) is))
 
 -- the calls that look, by the length
 look_steps-five : (image : List ℕ) → length image ≡ 5 → look_steps image ≡ asks_length ∷ reads 0 5 ∷ []
-look_steps-five image five =
-    (let at : eqb (length image) 5 ≡ true =
-    grind (arith, nat_tests) in ap (λ (b : Bool). asks_length ∷ cond b (reads 0 5 ∷ []) []) at)
+look_steps-five image five = grind (arith, common_steps, nat_tests) steps 20000
 
 look_steps-other : (image : List ℕ) → length image ≢ 5 → look_steps image ≡ asks_length ∷ []
-look_steps-other image other =
-    (let at : eqb (length image) 5 ≡ false =
-    grind (arith, nat_tests) in ap (λ (b : Bool). asks_length ∷ cond b (reads 0 5 ∷ []) []) at)
+look_steps-other image other = grind (arith, common_steps, nat_tests) steps 20000
 
 -- what a disk holds after a look is what it held
 look_holds : (image : List ℕ) (history : History)
     → content (with_made (length (look_steps image)) (look_steps image) history) ≡ content history
-look_holds image history = elim (eqb (length image) 5) as
-    (λ b. let steps : List Step =
-    asks_length ∷ cond b (reads 0 5 ∷ []) [] in content
-    (with_made (length steps) steps history) ≡ content history) [ true ↦ refl | false ↦ refl ]
+look_holds image history = grind (arith, common_steps) steps 20000
 
 -- the calls of a making over an image that is made, and over one that isn't
 pub make_steps-made : (image : List ℕ) → is_made image ≡ true → make_steps image ≡ look_steps image
@@ -152,8 +106,7 @@ module _ {D : Type 0} (told : D → Option History) (plan : D → Option FaultPl
       → Made told plan (λ any. known) (length known) course old new
       → Made told plan steps (length (steps image)) course old new
   there steps image known {course = course} {old = old} {new = new} is same made =
-      made_over told plan steps image same
-      (subst (λ (s : List Step). Made told plan (λ any. s) (length s) course old new) (sym is) made)
+      grind (arith, common_steps, made_over) steps 20000
 
   -- a look whose first call failed
   pub look_fault : {old new : D} → Called told plan asks_length true old new
@@ -292,23 +245,13 @@ module _ {D : Type 0} (told : D → Option History) (plan : D → Option FaultPl
                   let looked_at = with_made (length (look_steps (content before)))
                   (look_steps (content before)) before in
                   let after = with_call syncs false (with_call (writes 0 empty) false looked_at) in
-                  let one : told looked ≡ Some looked_at =
-                  look.calls ∙ ap (option_map
-                  (λ h. with_made (length (look_steps (content h))) (look_steps (content h)) h)) is in
+                  let one : told looked ≡ Some looked_at = grind (arith, common_steps) steps 20000 in
                   let two = write.history ∙ ap (option_map (with_call (writes 0 empty) false)) one in
                   let three : told now ≡ Some after = call.history ∙ ap (option_map (with_call syncs false)) two in
                   let there : after ≡ history = cc (three, some) in
                   let holds : content after ≡ empty =
-                  empty_written (content looked_at)
-                  (omega (
-                    arith,
-                    ap length (look_holds (content before) before),
-                    ap length (same before is),
-                    le,
-                  )) in
-                  let kept : Spells (content after) [] =
-                  subst (λ (b : List ℕ). Spells b []) (sym holds)
-                  (record { gate = 0; rest = []; is = refl; closed = refl; fits = All-nil (λ b. length b ≤ most) }) in
+                  grind (arith, common_steps, empty_written, look_holds, le) steps 20000 in
+                  let kept : Spells (content after) [] = grind (arith, common_steps) steps 20000 in
                   let fresh : IsFresh after = record {
                     settled = settled_now after [] kept refl;
                     images = λ image' may. synced_content_is_left after image' refl may ∙ holds;

@@ -2,6 +2,7 @@
 use Rattle.std.proofs.Common.{◌≡◌, ℕ, true, false, List, [], ◌∷◌, ◌++◌, length, replicate, take, drop, Option, Some, None, refl, sym, ◌∙◌, ap, subst, arith}
 use Rattle.std.proofs.lemmas.List.{take_all, take_at, length-replicate}
 use Rattle.std.specs.Option.{option_map}
+use Rattle.std.proofs.lemmas.Grind.{common_steps}
 use Rattle.crash_disk.specs.Disk.{asks_length, reads, syncs, History, content, with_call, FaultPlan}
 use Rattle.crash_disk.specs.Calls.{WhereTold, Called, IsStill, passed, failed_after, stopped_after, Made}
 use Rattle.crash_disk.proofs.Calls.{made_from, made_over, made_none, made_stop, made_fault, made_more}
@@ -10,7 +11,6 @@ use Rattle.gate_journal.specs.Steps.{open_steps}
 use Rattle.gate_journal.specs.Journal.{IsSettled, RefusesOpen}
 use Rattle.gate_journal.specs.Inside.{OverContent, IsReadRefusal}
 use Rattle.gate_journal.specs.declared.refusal.JournalRefusal.{JournalRefusal}
-use Rattle.gate_journal.specs.declared.refusal.JournalRefusal.TheVariants.{AlreadyMade, NotJournal, RecordTooLong, DeviceFault, Closed, NoMemory}
 use Rattle.gate_journal.proofs.Crash.{settled_now}
 
 -- an image of so many bytes, the one that the disk holds
@@ -39,11 +39,7 @@ module _ {D : Type 0} (told : D → Option History) (plan : D → Option FaultPl
       → Made told plan (λ any. syncs ∷ asks_length ∷ reads 0 count ∷ []) 3 course old new
       → Made told plan open_steps 3 course first new
   over count {course = course} {new = new} is made =
-      let some = some_image (told old) count is in
-      let here : Made told plan (λ any. open_steps some.0) 3 course old new =
-      subst (λ (n : ℕ). Made told plan (λ any. syncs ∷ asks_length ∷ reads 0 n ∷ []) 3 course old new)
-      (sym some.2) made in
-      made_from told plan still (made_over told plan open_steps some.0 some.1 here)
+      grind (arith, common_steps, some_image, made_from, made_over) steps 20000
 
   -- an image, where nothing is known of it
   count_of : (count : ℕ) × WhereTold (told old) (λ before. count ≡ length (content before))
@@ -127,9 +123,4 @@ module _ {D : Type 0} (told : D → Option History) (plan : D → Option FaultPl
   stopped = record { calls = made.calls; planned = (omega arith, made.planned.0, made.planned.1) }
 
   pub refused_read : (why : JournalRefusal) → IsReadRefusal image why → RefusesOpen journal_in told plan old why new
-  refused_read (NotJournal place) not = (made, λ before some. ap journal_in (sym (read before some)) ∙ not)
-  refused_read NoMemory not = (3, (λ one. absurd (omega (arith, one))), stopped)
-  refused_read DeviceFault not = absurd not
-  refused_read (AlreadyMade count) not = absurd not
-  refused_read (RecordTooLong count) not = absurd not
-  refused_read Closed not = absurd not
+  refused_read why not = grind (arith, common_steps, stopped) steps 20000

@@ -7,6 +7,7 @@ use Rattle.std.proofs.lemmas.Bool.Decides.{nat_tests}
 use Rattle.std.proofs.lemmas.List.{take_at, drop_at, append-nil}
 use Rattle.std.proofs.lemmas.List.Elements.{All-head, All-tail}
 use Rattle.std.proofs.lemmas.Nat.{from_be_bytes-to_be_bytes_4}
+use Rattle.std.proofs.lemmas.Grind.{common_steps}
 use Rattle.plasma_base.specs.Fields.{field_at}
 use Rattle.gate_journal.specs.Image.{is_open, begins_open, most, mark, spelled_record, spelled_records, body_in, with_first, records_from, journal_in, SpelledIsRead}
 
@@ -31,8 +32,7 @@ body_in-field field body rest four holds fits =
     ap (λ (l : List ℕ). drop 4 l) split ∙ drop_at field (body ++ rest) 4 four in
     let count : field_at w32 all 0 ≡ Some (length body) =
     rw begins (ap (λ (l : List ℕ). Some (from_be_bytes w32 l)) front ∙ ap (λ (n : ℕ). Some n) holds) in
-    rw count (rw small (rw within (ap (λ (l : List ℕ). Some (take (length body) l)) back
-    ∙ ap (λ (l : List ℕ). Some l) (take_at body rest (length body) refl))))
+    rw count (grind (arith, common_steps, take_at) steps 20000)
 
 -- the field that a length is spelled by holds it
 pub holds-length : (body : List ℕ) → length body ≤ most
@@ -90,13 +90,7 @@ pub journal_in-mark : (bytes : List ℕ) → journal_in (mark ++ bytes) ≡ reco
 journal_in-mark bytes = refl
 
 pub spelled_is_read : SpelledIsRead
-spelled_is_read image records kept =
-    let bytes = spelled_records records ++ kept.gate ∷ kept.rest in
-    let is : image ≡ mark ++ bytes = kept.is ∙ append_assoc mark (spelled_records records) (kept.gate ∷ kept.rest) in
-    let read : journal_in image ≡ Ok records =
-    ap journal_in is ∙ journal_in-mark bytes
-    ∙ records_from-spelled (length bytes + 1) 4 kept.gate records kept.rest kept.closed kept.fits (omega arith) in
-    rw read refl
+spelled_is_read image records kept = grind (arith, common_steps, journal_in-mark, records_from-spelled) steps 20000
 
 pub is_165 : (gate : ℕ) → is_open gate ≡ true → gate ≡ 165
 is_165 gate is = grind (arith, nat_tests)
@@ -129,8 +123,7 @@ read_record gates place [] body open_gate is = absurd (cc (open_gate))
 read_record gates place (gate ∷ bytes) body open_gate is =
     let at : gate ≡ 165 = is_165 gate open_gate in
     let step : suc (4 + length body) ≡ 5 + length body = omega arith in
-    ap (λ (g : ℕ). records_from (suc gates) place (g ∷ bytes)) at ∙ records_from-record gates place bytes body is
-    ∙ ap (λ (n : ℕ). with_first body (records_from gates (place + 5 + length body) (drop n (gate ∷ bytes)))) step
+    grind (arith, common_steps, records_from-record) steps 20000
 
 pub read_nothing : (gates place : ℕ) (bytes : List ℕ) → begins_open bytes ≡ true → body_in (drop 1 bytes) ≡ None
     → records_from (suc gates) place bytes ≡ Err place
@@ -184,5 +177,4 @@ pub on_end : (all : Result (List (List ℕ)) ℕ) (records : List (List ℕ)) (p
     → ReadsOn all records place bytes → begins_open bytes ≡ false → 0 < length bytes → all ≡ Ok records
 on_end all records place bytes (zero, lt, is) closed some = absurd (omega (arith, lt))
 on_end all records place bytes (suc gates, lt, is) closed some =
-    is ∙ ap (with_front records) (read_end gates place bytes closed some)
-    ∙ ap (λ (l : List (List ℕ)). Ok l) (append-nil records)
+    grind (arith, common_steps, read_end, append-nil) steps 20000

@@ -1,7 +1,8 @@
 -- An append from a journal at rest.
-use Rattle.std.proofs.Common.{◌≡◌, ◌<◌, ◌≤◌, ◌+◌, ◌-◌, ◌*◌, ℕ, zero, suc, false, List, [], ◌∷◌, ◌++◌, length, take, refl, sym, ◌∙◌, ap, subst, inl, arith, length-append}
+use Rattle.std.proofs.Common.{◌≡◌, ◌<◌, ◌≤◌, ◌+◌, ◌-◌, ◌*◌, ℕ, zero, suc, false, List, [], ◌∷◌, ◌++◌, length, take, refl, sym, ◌∙◌, ap, subst, inl, arith}
 use Rattle.std.proofs.lemmas.List.{take_all}
 use Rattle.std.proofs.lemmas.List.Elements.{All-push}
+use Rattle.std.proofs.lemmas.Grind.{common_steps}
 use Rattle.crash_disk.specs.Disk.{Step, DeviceCall, History, content, unsynced_ranges, MayLeave, moment, LeavesOnly}
 use Rattle.crash_disk.specs.Calls.{Course, passed, failed_after, stopped_after, made_of, with_made, after_course}
 use Rattle.crash_disk.proofs.Left.{synced_content_is_left}
@@ -70,9 +71,7 @@ module _ (history : History) (records : List (List ℕ)) (body : List ℕ) (rest
       rest.synced in
       let read = front-keeps (front_more f.front records f.read body fits) (records ++ body ∷ []) 0 behind
       (more_read f.front records f.read body fits).reads refl in
-      let here : AtRest (with_made 4 (append_steps (length f.front) body) history) (records ++ body ∷ []) =
-      record { read = subst (Keeps (records ++ body ∷ [])) (sym content_is) read; synced = refl } in
-      subst (λ (g : ℕ). AtRest (with_made 4 (append_steps g body) history) (records ++ body ∷ [])) f.read.place here
+      grind (arith, common_steps, f) steps 20000
 
   -- a crash at a moment of the append
   pub made_leaves : (count : ℕ) → LeavesOnly history (with_made count steps history) (KeepsWithOrWithout records body)
@@ -124,9 +123,7 @@ appends_settle history records body settled fits =
 
 -- the gate lies within the bytes
 pub gate_within : (gate : ℕ) (history : History) → RestsAt gate history → gate + 1 ≤ length (content history)
-gate_within gate history r =
-    let k = r.settled.kept in
-    omega (arith, r.place, ap length k.is, length-append (spelled r.records) (k.gate ∷ k.rest))
+gate_within gate history r = grind (arith, common_steps) steps 20000
 
 -- the records of a journal at rest at its gate are those that are read
 same_records : (gate : ℕ) (history : History) (r : RestsAt gate history) (records : List (List ℕ))
@@ -172,17 +169,9 @@ module _ (gate : ℕ) (history : History) (r : RestsAt gate history) (body : Lis
 
 -- the room for a body of at most so many bytes
 pub one_room : (bodies bytes len left : ℕ) → 0 < bodies → len ≤ bytes → bodies * (bytes + 6) ≤ left → len + 6 ≤ left
-one_room zero bytes len left some le room = absurd (omega (arith, some))
-one_room (suc bodies) bytes len left some le room =
-    let e : suc bodies * (bytes + 6) ≡ bodies * (bytes + 6) + (bytes + 6) = omega arith in
-    omega (arith, e, le, room)
+one_room bodies bytes len left some le room = grind (arith, common_steps) steps 20000
 
 -- the room after one body of at most so many bytes
 pub less_room : (bodies bytes len before now : ℕ) → 0 < bodies → len ≤ bytes → bodies * (bytes + 6) ≤ before
     → before ≤ now + (len + 6) → (bodies - 1) * (bytes + 6) ≤ now
-less_room zero bytes len before now some le room spent = absurd (omega (arith, some))
-less_room (suc bodies) bytes len before now some le room spent =
-    let e : suc bodies * (bytes + 6) ≡ bodies * (bytes + 6) + (bytes + 6) = omega arith in
-    let p : suc bodies - 1 ≡ bodies = omega arith in
-    let q : (suc bodies - 1) * (bytes + 6) ≡ bodies * (bytes + 6) = ap (λ (n : ℕ). n * (bytes + 6)) p in
-    omega (arith, e, q, le, room, spent)
+less_room bodies bytes len before now some le room spent = grind (arith, common_steps) steps 20000

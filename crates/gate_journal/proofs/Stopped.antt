@@ -1,6 +1,7 @@
 -- What a crash leaves at each moment of calls that write nothing, and of a making.
 use Rattle.std.proofs.Common.{◌≡◌, ◌≤◌, ◌+◌, ℕ, zero, suc, Bool, true, false, cond, eqb, List, [], ◌∷◌, ◌++◌, length, take, drop, MatchBool, slice_index, refl, sym, ◌∙◌, ap, subst, arith}
 use Rattle.std.proofs.lemmas.List.{append-nil}
+use Rattle.std.proofs.lemmas.Grind.{common_steps}
 use Rattle.crash_disk.specs.Disk.{Step, asks_length, reads, writes, syncs, DeviceCall, History, content, content_after, synced_content_after, unsynced_ranges_after, is_touched, MayLeave, before_last, LeavesOnly}
 use Rattle.crash_disk.specs.Calls.{Course, passed, failed_after, stopped_after, made_of, after_course}
 use Rattle.crash_disk.proofs.Left.{content_may_be_left, synced_content_is_left}
@@ -50,14 +51,11 @@ module _ (Q : List DeviceCall → Type 0) (S : Step → Type 0)
   -- at each moment of calls that went so
   since_course : (course : Course) (steps : List Step) (history : History) → AllSteps S steps → Q history.calls
       → Since (length history.calls) (after_course course steps history).calls Q
-  since_course passed steps history all here =
-      since_made (length history.calls) (length steps) steps history.calls all (omega arith)
-      (since_start history.calls here)
+  since_course passed steps history all here = grind (arith, common_steps, since_made, since_start) steps 20000
   since_course (failed_after count) steps history all here =
       since_made (length history.calls) count steps history.calls all (omega arith) (since_start history.calls here)
   since_course (stopped_after count) steps history all here =
-      since_made (length history.calls) count (take count steps) history.calls (first_steps S count steps all)
-      (omega arith) (since_start history.calls here)
+      grind (arith, common_steps, since_made, first_steps, since_start) steps 20000
 
 -- a step that writes nothing
 abbrev pub IsQuiet : Step → Type 0
@@ -143,19 +141,11 @@ short_keeps : (began : List ℕ) (step : Step) (failed : Bool) (calls : List Dev
     → IsShort began calls → IsShort began (record { step = step; failed = failed } ∷ calls)
 short_keeps began asks_length failed calls is le = le
 short_keeps began (reads place count) failed calls is le = le
-short_keeps began (writes place bytes) failed calls is le =
-    let all = (λ i. content_after began (record { step = writes (is.0 i) (is.1 i); failed = failed } ∷ calls))
-    ∙ empty_written (content_after began calls) le in
-    omega (arith, ap length all)
+short_keeps began (writes place bytes) failed calls is le = grind (arith, common_steps, empty_written) steps 20000
 short_keeps began syncs failed calls is le = le
 
 makes_so : (image : List ℕ) → AllSteps IsMaking (look_steps image ++ writes 0 empty ∷ syncs ∷ [])
-makes_so image = elim (eqb (length image) 5) as
-    (λ b. AllSteps IsMaking ((asks_length ∷ cond b (reads 0 5 ∷ []) []) ++ writes 0 empty ∷ syncs ∷ [])) [
-      | true ↦
-          (tt, (tt, ((refl, refl), (tt, tt))))
-      | false ↦ (tt, ((refl, refl), (tt, tt)))
-    ]
+makes_so image = grind (arith, common_steps) steps 20000
 
 -- a making over a made image leaves all as it was
 pub made_leaves : (history : History) (course : Course) → is_made (content history) ≡ true

@@ -1,14 +1,15 @@
 -- The proof of a path: it keeps the path's siblings that aren't the default of their level.
-use Rattle.std.proofs.Common.{◌≡◌, ◌≢◌, ℕ, zero, suc, ◌+◌, ◌*◌, ◌%◌, ◌^◌, ◌<◌, ◌≤◌, true, not, Bool, if◌then◌else◌, List, [], ◌∷◌, ◌++◌, Result, Ok, Err, IfOk, length, get_or, map, slice_index_or, refl, sym, ap, ◌∙◌, inl, inr, append-nil, arith}
+use Rattle.std.proofs.Common.{◌≡◌, ◌≢◌, ℕ, zero, suc, ◌+◌, ◌*◌, ◌%◌, ◌^◌, ◌<◌, ◌≤◌, true, not, if◌then◌else◌, List, [], ◌∷◌, ◌++◌, Result, Ok, Err, IfOk, length, get_or, map, slice_index_or, refl, sym, ap, ◌∙◌, inl, inr, append-nil, arith}
 use Rattle.std.specs.Int.Bits.{or_shifted_r}
 use Rattle.std.specs.Int.RustNames.{bit_or}
 use Rattle.std.specs.List.{All, filter, range_with_len}
 use Rattle.std.proofs.lemmas.Bool.{cases_Bool, both_ways}
-use Rattle.std.proofs.lemmas.List.Elements.{All-append, All-cons, All-filter, All-map, All-nil, filter-append}
+use Rattle.std.proofs.lemmas.List.Elements.{All-append, All-filter, All-map, All-nil, filter-append}
 use Rattle.std.proofs.lemmas.List.FromFn.{get_or-map-range_with_len, get_or-range_with_len, length-range_with_len}
 use Rattle.std.proofs.lemmas.List.{map-append}
 use Rattle.std.proofs.lemmas.Nat.{one_shl}
 use Rattle.std.proofs.lemmas.Slice.Eq.{bytes_eq-Decides}
+use Rattle.std.proofs.lemmas.Grind.{common_steps}
 use Rattle.sparse_merkle.specs.MaskedPath.{MaskedPath, IsMaskedPath, is_canonical, proof_path, MasksPath}
 use Rattle.sparse_merkle.specs.PathProof.{is_default_at, mask_of, kept_siblings, proof_of_path}
 use Rattle.sparse_merkle.specs.TreeDigest.{default_digest, AreDefaults, far_part, near_part, path_below, path_to, subtree_digest}
@@ -31,14 +32,7 @@ kept_more : (dig : List ℕ → List ℕ) (path : List (List ℕ)) (ks : List �
     → map (λ k. slice_index_or path k []) (filter (λ k. not (is_default_at dig path k)) (ks ++ level ∷ []))
     ≡ map (λ k. slice_index_or path k []) (filter (λ k. not (is_default_at dig path k)) ks)
     ++ (if is_default_at dig path level then [] else slice_index_or path level [] ∷ [])
-kept_more dig path ks level =
-    let p : ℕ → Bool = λ k. not (is_default_at dig path k) in
-    let f : ℕ → List ℕ = λ k. slice_index_or path k [] in
-    rw (filter-append p ks (level ∷ []), map-append f (filter p ks) (filter p (level ∷ [])))
-    (elim (cases_Bool (is_default_at dig path level)) [
-      | inl is ↦ rw is refl
-      | inr isnt ↦ rw isnt refl
-    ])
+kept_more dig path ks level = grind (arith, common_steps, filter-append, map-append, cases_Bool) steps 20000
 
 kept_below-suc : (dig : List ℕ → List ℕ) (path : List (List ℕ)) (level : ℕ)
     → kept_below dig path (suc level)
@@ -167,9 +161,7 @@ All-path_below-long dig coin (suc level) entries long =
     All-append (λ sibling. length sibling ≡ 32) (path_below dig coin level (near_part coin level entries))
     (subtree_digest dig level (far_part coin level entries) ∷ [])
     (All-path_below-long dig coin level (near_part coin level entries) long)
-    (All-cons (λ sibling. length sibling ≡ 32) (subtree_digest dig level (far_part coin level entries)) []
-    (length-subtree_digest dig level (far_part coin level entries) long)
-    (All-nil (λ sibling. length sibling ≡ 32)))
+    (grind (arith, common_steps, length-subtree_digest) steps 20000)
 
 pub length-path_to : (dig : List ℕ → List ℕ) (coin : ℕ) (entries : List Entry)
     → length (path_to dig coin entries) ≡ 64
