@@ -1,7 +1,8 @@
 -- What an append and an opening tell of a two-level signer's records.
-use Rattle.std.proofs.Common.{◌≡◌, ◌≤◌, ◌+◌, ◌-◌, max, ℕ, true, false, List, [], ◌∷◌, ◌++◌, length, Option, Some, Result, Ok, Err, refl, sym, ◌∙◌, ap, subst, arith}
+use Rattle.std.proofs.Common.{◌≡◌, ◌≤◌, ◌+◌, ◌-◌, ℕ, true, false, List, [], ◌∷◌, ◌++◌, length, Option, Some, Result, Ok, Err, sym, ◌∙◌, ap, subst, arith}
 use Rattle.std.specs.Result.{is_ok, IfErr, OnErr, OnOk}
 use Rattle.std.proofs.lemmas.Bool.{lt-ltb, le-leb}
+use Rattle.std.proofs.lemmas.Grind.{common_steps}
 use Rattle.plasma_base.specs.Causes.{faults_after}
 use Rattle.crash_disk.specs.Disk.{History, FaultPlan}
 use Rattle.crash_disk.specs.Calls.{WhereTold, IsStill, passed}
@@ -37,10 +38,7 @@ module _ {D : Type 0} (told : D → Option History) {journal : JournalState D} {
     more_are = one_more kept.seed kept.records body is_kept.are follows
 
     pub spare : has_spare journal (length body) ≡ true
-    spare = rw (
-      lt-ltb 0 journal.spare_bodies (omega (arith, room.bodies)),
-      le-leb (length body) journal.spare_bytes (omega (arith, short, room.bytes (omega arith))),
-    ) refl
+    spare = grind (arith, common_steps, lt-ltb, le-leb) steps 20000
 
     pub fits : length body ≤ most
     fits = omega (arith, short)
@@ -64,39 +62,26 @@ module _ {D : Type 0} (told : D → Option History) {journal : JournalState D} {
         → WhereTold (told new.disk) (λ now. IsSettled now more.records)
         → IsKept (told new.disk) new more
     append_kept {new = new} {more = more} appended same is settled =
-        let gate : new.gate ≡ journal.gate + (5 + length body) = ap (λ (j : JournalState D). j.gate)
-        appended.journal in
+        let gate : new.gate ≡ journal.gate + (5 + length body) = grind (arith, common_steps) steps 20000 in
         let are : level_records more.seed more.records ≡ Ok more.records = rw (same, is) more_are in
         record {
           are = are;
           stay = λ history some. settled_stays (are_level_records more.seed) more.records
               (are_ok more.seed more.records are) history (settled history some);
           settled = λ still. settled;
-          gate = λ still. omega (
-            arith,
-            gate,
-            is_kept.gate open',
-            spelled-count kept.records body,
-            ap (λ (l : List (List ℕ)). length (spelled l)) is,
-          );
+          gate = grind (arith, common_steps, spelled-count) steps 20000;
         }
 
     -- the room after it
     pub bodies-left : {plan : D → Option FaultPlan} {new : JournalState D}
         → Appended told plan body journal new
         → journal.spare_bodies ≤ new.spare_bodies + 1
-    bodies-left {new = new} appended =
-        let bodies = ap (λ (j : JournalState D). j.spare_bodies) appended.journal in
-        omega (arith, rw spare at bodies)
+    bodies-left {new = new} appended = grind (arith, common_steps, spare) steps 20000
 
     pub bytes-left : {plan : D → Option FaultPlan} {new : JournalState D}
         → Appended told plan body journal new
         → journal.spare_bytes ≤ new.spare_bytes
-    bytes-left {new = new} appended =
-        let bytes : new.spare_bytes ≡ max (length body) journal.spare_bytes = ap
-        (λ (j : JournalState D). j.spare_bytes)
-        appended.journal in
-        omega (arith, bytes)
+    bytes-left {new = new} appended = grind (arith, common_steps) steps 20000
 
 -- the notes as they were before, on the disk as it was then
 abbrev pub begun : {D : Type 0} → D → NotesState D → NotesState D
@@ -146,8 +131,7 @@ module _ {D : Type 0} (told : D → Option History) (new : JournalState D) (kept
     opened_kept {old = old} more is fresh =
         let are : level_records kept.seed kept.records ≡ Ok kept.records =
         ap (level_records kept.seed) (sym same) ∙ read in
-        let gate : new.gate ≡ length (spelled bodies) = ap (λ (j : JournalState D). j.gate) is
-        ∙ ap (λ (j : JournalState D). j.gate) fresh in
+        let gate : new.gate ≡ length (spelled bodies) = grind (arith, common_steps) steps 20000 in
         record {
           are = are;
           stay = λ history some. settled_stays (are_level_records kept.seed) kept.records
@@ -161,9 +145,7 @@ pub reserved_room : {D : Type 0} (journal : JournalState D) {new : JournalState 
     (disk : D) (more least : ℕ) → new ≡ with_spare more 137 disk journal → least ≤ more → least ≤ kept.spare
     → HasRoom new kept least
 reserved_room {D = D} journal {new = new} disk more least is fewer enough =
-    let bodies : new.spare_bodies ≡ max more journal.spare_bodies = ap (λ (j : JournalState D). j.spare_bodies) is in
-    let bytes : new.spare_bytes ≡ max 137 journal.spare_bytes = ap (λ (j : JournalState D). j.spare_bytes) is in
-    record { spare = enough; bodies = omega (arith, bodies, fewer); bytes = λ some. omega (arith, bytes) }
+    grind (arith, common_steps, spare) steps 20000
 
 -- ---- what a reservation leaves
 
@@ -194,8 +176,7 @@ kept_reserved {D = D} told {journal = journal} {new = new} {kept = kept} more is
       are = is_kept.are;
       stay = subst (λ (t : Option History). WhereTold t (Stay (are_level_records kept.seed) kept.records))
           (sym told_same) is_kept.stay;
-      settled = λ still. subst (λ (t : Option History). WhereTold t (λ history. IsSettled history kept.records))
-          (sym told_same) (is_kept.settled (sym closed ∙ still));
+      settled = grind (arith, common_steps) steps 20000;
       gate = λ still. gate ∙ is_kept.gate (sym closed ∙ still);
     }
 
@@ -219,11 +200,7 @@ did_reserved told plan faults body old mid new (Err StopNoMemory) fault still cl
 -- room for fewer
 fewer_room : {D : Type 0} {new : JournalState D} {more : LevelRecordsState} (least few : ℕ) → few ≤ least
     → HasRoom new more least → HasRoom new more few
-fewer_room least few fewer room = record {
-  spare = omega (arith, room.spare, fewer);
-  bodies = omega (arith, room.bodies, fewer);
-  bytes = λ some. room.bytes (omega (arith, fewer, some));
-}
+fewer_room least few fewer room = grind (arith, common_steps, spare) steps 20000
 
 -- the room behind an append: of a bottom key, and of a message
 module _ {D : Type 0} {journal new : JournalState D} {kept more : LevelRecordsState} (r : Result Unit Stop)
@@ -232,29 +209,11 @@ module _ {D : Type 0} {journal new : JournalState D} {kept more : LevelRecordsSt
     (bytes : OnOk r (journal.spare_bytes ≤ new.spare_bytes))
   where
     least_room : (least : ℕ) → HasRoom journal kept (least + 1) → new.closed ≡ false → HasRoom new more least
-    least_room least room still = at r closed spare bodies bytes
-      where
-        at : (s : Result Unit Stop) → OnErr s (new.closed ≡ true) → OnOk s (kept.spare ≤ more.spare + 1)
-            → OnOk s (journal.spare_bodies ≤ new.spare_bodies + 1)
-            → OnOk s (journal.spare_bytes ≤ new.spare_bytes) → HasRoom new more least
-        at (Ok done) shut a b d =
-            let had = room.bytes (omega arith) in
-            record {
-              spare = omega (arith, room.spare, a);
-              bodies = omega (arith, room.bodies, b);
-              bytes = λ some. omega (arith, had, d);
-            }
-        at (Err stop) shut a b d = absurd (cc (shut, still))
+    least_room least room still = grind (arith, common_steps, spare) steps 20000
 
     pub level_room : HasRoom journal kept (1 + leaf_count kept.seed.bottom) → new.closed ≡ false
         → HasRoom new more (leaves_left more.seed (entries_of more.records))
-    level_room room still =
-        let count : leaf_count more.seed.bottom ≡ leaf_count kept.seed.bottom =
-        ap (λ (s : HssSeed). leaf_count s.bottom) same in
-        let one : 1 + leaf_count kept.seed.bottom ≡ leaf_count kept.seed.bottom + 1 = omega arith in
-        fewer_room (leaf_count kept.seed.bottom) (leaves_left more.seed (entries_of more.records))
-        (omega (arith, left-most more.seed (entries_of more.records), count))
-        (least_room (leaf_count kept.seed.bottom) (subst (HasRoom journal kept) one room) still)
+    level_room room still = grind (arith, common_steps, same, fewer_room, left-most, least_room) steps 20000
 
     pub message_room : (entries : List Entry) (j q : ℕ) (message : List ℕ) → entries ≡ entries_of kept.records
         → IsNextLeaf kept.seed entries j q

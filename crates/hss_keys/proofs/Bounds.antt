@@ -3,11 +3,12 @@ use Rattle.std.proofs.Common.{◌≡◌, ◌<◌, ◌+◌, ◌-◌, ℕ, List, [
 use Rattle.std.specs.List.{slice_get}
 use Rattle.std.proofs.lemmas.List.{get_or_at}
 use Rattle.std.proofs.lemmas.Option.{slice_get-get_or}
+use Rattle.std.proofs.lemmas.Grind.{common_steps}
 use Rattle.hss_keys.specs.declared.seed.HssSeed.{HssSeed}
 use Rattle.hss_keys.specs.declared.entry.Entry.{Entry}
 use Rattle.hss_keys.specs.declared.entry.Entry.TheVariants.{Binds}
 use Rattle.hss_keys.specs.Keys.{bottom_key}
-use Rattle.hss_keys.specs.Entries.{entries_of, entry_text, key_at, keys_of, message_at, messages_under, opened_count, used_in, IsEntry}
+use Rattle.hss_keys.specs.Entries.{entries_of, entry_text, key_at, message_at, messages_under, opened_count, used_in, IsEntry}
 use Rattle.hss_keys.specs.Form.{level_records}
 use Rattle.hss_keys.specs.Levels.{bound_of, HssBoundState, KeepsBound}
 use Rattle.hss_keys.proofs.Counts.{entries-more, messages-bound}
@@ -18,29 +19,20 @@ use Rattle.hss_keys.proofs.Spelling.{entries_are_read_back}
 pub bottom-kept : (seed : HssSeed) (records : List (List ℕ)) (j : ℕ) (bottom : List ℕ)
     → level_records seed records ≡ Ok records → j < opened_count (entries_of records) → bottom ≡ bottom_key seed j
     → key_at (entries_of records) j ≡ Some bottom
-bottom-kept seed records j bottom are within is =
-    let counted = are_counted seed records are in
-    slice_get-get_or (keys_of (entries_of records)) j [] within
-    ∙ ap (λ (k : List ℕ). Some k) (counted.keys j within ∙ sym is)
+bottom-kept seed records j bottom are within is = grind (arith, common_steps, are_counted, slice_get-get_or) steps 20000
 
 -- a bound is kept where its bottom key and its message are
 pub bound-kept : (seed : HssSeed) (records : List (List ℕ)) (j q : ℕ) (message : List ℕ) (bound : HssBoundState)
     → bound ≡ bound_of seed j q message → key_at (entries_of records) j ≡ Some bound.bottom
     → message_at (entries_of records) j q ≡ Some message → KeepsBound records bound
-bound-kept seed records j q message bound is key kept = (
-  ap (λ (b : HssBoundState). key_at (entries_of records) b.top_leaf) is ∙ key,
-  ap (λ (b : HssBoundState). message_at (entries_of records) b.top_leaf b.leaf) is ∙ kept
-      ∙ ap (λ (b : HssBoundState). Some b.message) (sym is),
-)
+bound-kept seed records j q message bound is key kept = grind (arith, common_steps) steps 20000
 
 -- the entries behind a record that binds a message
 pub entries-bound : (records more : List (List ℕ)) (j q : ℕ) (message : List ℕ) → IsEntry (Binds j q message)
     → more ≡ records ++ entry_text (Binds j q message) ∷ []
     → entries_of more ≡ entries_of records ++ Binds j q message ∷ []
 entries-bound records more j q message is_entry is =
-    ap (λ (l : List (List ℕ)). entries_of l) is
-    ∙ entries-more records (entry_text (Binds j q message)) (Binds j q message)
-    (entries_are_read_back (Binds j q message) is_entry)
+    grind (arith, common_steps, entries-more, entries_are_read_back) steps 20000
 
 -- and the message that they keep
 pub message-kept : (entries : List Entry) (j q : ℕ) (message : List ℕ) → j + 1 ≡ opened_count entries

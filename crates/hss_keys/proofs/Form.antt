@@ -1,10 +1,10 @@
 -- When records are those of a two-level signer.
-use Rattle.std.proofs.Common.{◌≡◌, ◌<◌, ◌+◌, ℕ, suc, get_or, true, false, List, [], ◌∷◌, ◌++◌, length, drop, take, Ok, Err, refl, sym, ◌∙◌, ap, subst, inl, inr, arith, append_assoc, append-nil, length-append}
-use Rattle.std.specs.Int.{w32, to_be_bytes}
+use Rattle.std.proofs.Common.{◌≡◌, ◌<◌, ◌+◌, ℕ, suc, get_or, true, false, List, [], ◌∷◌, ◌++◌, length, drop, take, Ok, Err, refl, sym, ◌∙◌, ap, subst, inl, inr, arith, append_assoc, append-nil}
 use Rattle.std.proofs.lemmas.Bool.{cases_Bool}
 use Rattle.std.proofs.lemmas.List.{take-append-drop}
 use Rattle.std.proofs.Math.Seq.{drop-cons}
-use Rattle.gate_journal.specs.Image.{spelled, spelled_record, spelled_records}
+use Rattle.std.proofs.lemmas.Grind.{common_steps}
+use Rattle.gate_journal.specs.Image.{spelled}
 use Rattle.hss_keys.specs.declared.seed.HssSeed.{HssSeed}
 use Rattle.hss_keys.specs.Entries.{entries_of}
 use Rattle.hss_keys.specs.Form.{level_records, may_follow, records_behind}
@@ -50,8 +50,7 @@ module _ (seed : HssSeed) where
   pub behind-append : (before records all more : List (List ℕ)) → records_behind seed before records ≡ Ok all
       → records_behind seed before (records ++ more) ≡ records_behind seed all more
   unfolding records_behind
-  behind-append before [] all more is = (let same : before ≡ all = cc is in ap
-      (λ (l : List (List ℕ)). records_behind seed l more) same)
+  behind-append before [] all more is = grind (arith, common_steps) steps 20000
   behind-append before (body ∷ records) all more is = elim (cases_Bool (may_follow seed before body)) [
     | inl may ↦ step_on before body (records ++ more) may
         ∙ behind-append (before ++ body ∷ []) records all more (sym (step_on before body records may) ∙ is)
@@ -86,10 +85,7 @@ module _ (seed : HssSeed) where
 
   counted_step : (before : List (List ℕ)) (body : List ℕ) → AreCounted seed (entries_of before)
       → may_follow seed before body ≡ true → AreCounted seed (entries_of (before ++ body ∷ []))
-  counted_step before body are may =
-      let entry = follows_as seed before body may in
-      subst (AreCounted seed) (sym (entries-more before body entry.0 entry.1))
-      (entry_counted seed (entries_of before) entry.0 are entry.2)
+  counted_step before body are may = grind (arith, common_steps, follows_as, entries-more, entry_counted) steps 20000
 
   pub are_counted : (records : List (List ℕ)) → level_records seed records ≡ Ok records
       → AreCounted seed (entries_of records)
@@ -99,14 +95,5 @@ module _ (seed : HssSeed) where
 -- a record more adds its gate, its length and its body
 pub spelled-count : (before : List (List ℕ)) (body : List ℕ)
     → length (spelled (before ++ body ∷ [])) ≡ length (spelled before) + (5 + length body)
-spelled-count [] body = omega (
-  arith,
-  length-append (spelled_record body) [],
-  length-append (to_be_bytes w32 (length body)) body,
-)
-spelled-count (first ∷ before) body = omega (
-  arith,
-  spelled-count before body,
-  length-append (spelled_record first) (spelled_records (before ++ body ∷ [])),
-  length-append (spelled_record first) (spelled_records before),
-)
+spelled-count [] body = grind (arith, common_steps) steps 20000
+spelled-count (first ∷ before) body = grind (arith, common_steps, spelled-count before body) steps 20000

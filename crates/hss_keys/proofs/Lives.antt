@@ -1,16 +1,16 @@
 -- What a journal of a two-level signer keeps through its life.
-use Rattle.std.proofs.Common.{◌≡◌, ◌≤◌, ℕ, true, false, cond, List, [], ◌∷◌, ◌++◌, length, Option, Some, None, Result, Ok, Err, refl, sym, ◌∙◌, ap, arith, length-append}
+use Rattle.std.proofs.Common.{◌≡◌, ◌≤◌, ℕ, true, false, cond, List, [], ◌∷◌, ◌++◌, length, Option, Some, None, Ok, refl, ◌∙◌, ap, arith, length-append}
 use Rattle.std.specs.List.{slice_get}
 use Rattle.std.specs.Option.{unwrap_or}
-use Rattle.std.specs.Result.{is_ok, result_ok}
 use Rattle.std.proofs.lemmas.Option.{same_Some, slice_get_within, slice_get-get_or, get_or_from_slice_get}
 use Rattle.std.proofs.lemmas.List.{get_or_append_left}
 use Rattle.std.proofs.lemmas.List.Elements.{filter_map-append}
+use Rattle.std.proofs.lemmas.Grind.{common_steps}
 use Rattle.crash_disk.specs.Disk.{content}
 use Rattle.crash_disk.specs.Calls.{with_made}
 use Rattle.crash_disk.specs.Outcomes.{image_after}
 use Rattle.crash_disk.proofs.Left.{content_may_be_left}
-use Rattle.gate_journal.specs.Image.{most, journal_in, spelled}
+use Rattle.gate_journal.specs.Image.{most, spelled}
 use Rattle.gate_journal.specs.Steps.{append_steps}
 use Rattle.gate_journal.specs.Journal.{Keeps}
 use Rattle.gate_journal.specs.Laws.{is_added}
@@ -18,8 +18,8 @@ use Rattle.gate_journal.specs.Life.{records_in, Continue}
 use Rattle.gate_journal.proofs.Lives.{in_keeps, records_stay, made_journals_stay}
 use Rattle.gate_journal.proofs.Crash.{stopped_appends}
 use Rattle.hss_keys.specs.declared.seed.HssSeed.{HssSeed}
-use Rattle.hss_keys.specs.Entries.{entry_in, entry_text, entries_of, key_in, keys_of, message_at, message_under, messages_under, key_at}
-use Rattle.hss_keys.specs.Form.{are_level_records, level_records, level_records_in, level_records_read, may_follow}
+use Rattle.hss_keys.specs.Entries.{entry_text, entries_of, keys_of, messages_under}
+use Rattle.hss_keys.specs.Form.{are_level_records, level_records, level_records_in, may_follow}
 use Rattle.hss_keys.specs.Levels.{HssBoundState, KeepsBound}
 use Rattle.hss_keys.specs.Laws.{NoLeafSignsTwoMessages, BoundsStay, KeptBoundsStay, LevelJournalsStay, StoppedLevelAppends, life_after}
 use Rattle.hss_keys.proofs.Spelling.{entries_are_read_back, text-short}
@@ -29,26 +29,15 @@ use Rattle.hss_keys.proofs.Form.{all_same, one_more}
 -- an image that keeps records of the signer
 pub in_image : (seed : HssSeed) (image : List ℕ) (records : List (List ℕ)) → Keeps records image
     → level_records seed records ≡ Ok records → level_records_in seed image ≡ Ok records
-in_image seed image records keeps are = at (journal_in image) keeps
-  where
-    at : (r : Result (List (List ℕ)) ℕ) → result_ok r ≡ Some records → level_records_read seed r ≡ Ok records
-    at (Ok read) is = (let same : read ≡ records = cc is in ap (level_records seed) same ∙ are)
-    at (Err place) is = absurd (cc is)
+in_image seed image records keeps are = grind (arith, common_steps) steps 20000
 
 are_kind : (seed : HssSeed) (records : List (List ℕ)) → are_level_records seed records ≡ true
     → level_records seed records ≡ Ok records
-are_kind seed records is = at (level_records seed records) refl is
-  where
-    at : (r : Result (List (List ℕ)) ℕ) → level_records seed records ≡ r → is_ok r ≡ true
-        → level_records seed records ≡ Ok records
-    at (Ok all) read is = read ∙ ap (λ (l : List (List ℕ)). Ok l) (sym (all_same seed records all read))
-    at (Err place) read is = absurd (cc is)
+are_kind seed records is = grind (arith, common_steps, all_same) steps 20000
 
 in_life : (seed : HssSeed) (image : List ℕ) (records : List (List ℕ))
     → records_in (are_level_records seed) image ≡ Some records → level_records_in seed image ≡ Ok records
-in_life seed image records is =
-    let parts = in_keeps (are_level_records seed) image records is in
-    in_image seed image records parts.0 (are_kind seed records parts.1)
+in_life seed image records is = grind (arith, common_steps, in_keeps, in_image, are_kind) steps 20000
 
 pub bounds_stay : BoundsStay
 bounds_stay seed disk earlier later records may is =
@@ -70,18 +59,14 @@ keys_continue : (records later : List (List ℕ)) → Continue records later
     → Continue (keys_of (entries_of records)) (keys_of (entries_of later))
 keys_continue records later on = (
   keys_of (entries_of on.0),
-  ap (λ (l : List (List ℕ)). keys_of (entries_of l)) on.1
-      ∙ ap keys_of (filter_map-append entry_in records on.0)
-      ∙ filter_map-append key_in (entries_of records) (entries_of on.0),
+  grind (arith, common_steps, filter_map-append) steps 20000,
 )
 
 messages_continue : (j : ℕ) (records later : List (List ℕ)) → Continue records later
     → Continue (messages_under j (entries_of records)) (messages_under j (entries_of later))
 messages_continue j records later on = (
   messages_under j (entries_of on.0),
-  ap (λ (l : List (List ℕ)). messages_under j (entries_of l)) on.1
-      ∙ ap (messages_under j) (filter_map-append entry_in records on.0)
-      ∙ filter_map-append (message_under j) (entries_of records) (entries_of on.0),
+  grind (arith, common_steps, filter_map-append) steps 20000,
 )
 
 -- and so stand at their places
@@ -114,10 +99,7 @@ no_leaf_signs_two_messages seed disk earlier later one other may was is same =
     let second = has_records (life_after seed disk (later ++ earlier)).records other is in
     let on = (bounds_stay seed disk earlier later first.0 may first.1).1 second.0 second.1 in
     let stays = kept_bounds_stay first.0 second.0 one on first.2 in
-    let entries = entries_of second.0 in (
-      same_Some _ _ (sym stays.0 ∙ ap (key_at entries) same ∙ second.2.0),
-      λ same_leaf. same_Some _ _ (sym stays.1 ∙ (λ i. message_at entries (same i) (same_leaf i)) ∙ second.2.1),
-    )
+    grind (arith, common_steps, same_Some) steps 20000
 
 pub stopped_level_appends : StoppedLevelAppends
 stopped_level_appends seed history records entry count outcome settled are is follows pattern =

@@ -1,6 +1,7 @@
 -- What an opening of a two-level signer did, in the words of a node's notes.
-use Rattle.std.proofs.Common.{◌≡◌, ◌≤◌, ℕ, false, List, Option, Some, Result, Ok, Err, refl, sym, ◌∙◌, ap, subst, arith}
+use Rattle.std.proofs.Common.{◌≡◌, ◌≤◌, ℕ, false, List, Option, Some, Result, Ok, Err, sym, ◌∙◌, ap, subst, arith}
 use Rattle.std.specs.Result.{result_ok}
+use Rattle.std.proofs.lemmas.Grind.{common_steps}
 use Rattle.plasma_base.specs.Causes.{faults_after}
 use Rattle.crash_disk.specs.Disk.{History, content, FaultPlan}
 use Rattle.crash_disk.specs.Calls.{WhereTold, IsStill, passed, stopped_after, Made}
@@ -9,7 +10,6 @@ use Rattle.gate_journal.specs.Steps.{open_steps}
 use Rattle.gate_journal.specs.Journal.{JournalState, Keeps, IsSettled, RefusesOpen, is_device_fault, fresh_journal, with_spare}
 use Rattle.node_journal.specs.Notes.{Opened, RefusesRole}
 use Rattle.gate_journal.specs.declared.refusal.JournalRefusal.{JournalRefusal}
-use Rattle.gate_journal.specs.declared.refusal.JournalRefusal.TheVariants.{AlreadyMade, NotJournal, RecordTooLong, DeviceFault, Closed, NoMemory}
 use Rattle.lms_sign.specs.Types.{leaf_count}
 use Rattle.hss_keys.specs.declared.seed.HssSeed.{HssSeed}
 use Rattle.hss_keys.specs.Keys.{hss_key_of}
@@ -26,21 +26,14 @@ use Rattle.hss_keys.proofs.Adding.{opened_kept, reserved_room}
 -- what an image keeps is read by the signer's reader
 read-refused : (seed : HssSeed) (bodies : List (List ℕ)) (place : ℕ) (r : Result (List (List ℕ)) ℕ)
     → level_records seed bodies ≡ Err place → result_ok r ≡ Some bodies → level_records_read seed r ≡ Err place
-read-refused seed bodies place (Ok read) form is =
-    (let same : read ≡ bodies = cc is in ap (level_records seed) same ∙ form)
-read-refused seed bodies place (Err other) form is = absurd (cc is)
+read-refused seed bodies place r form is = grind (arith, common_steps) steps 20000
 
 module _ {D : Type 0} (told : D → Option History) (plan : D → Option FaultPlan) (faults : D → ℕ) (seed : HssSeed)
   where
     -- a refusal of the journal's opening
     refuses_level : (old new : D) (why : JournalRefusal) → RefusesOpen journal_in told plan old why new
         → RefusesOpen (level_records_in seed) told plan old why new
-    refuses_level old new DeviceFault did = did
-    refuses_level old new NoMemory did = did
-    refuses_level old new (NotJournal place) did = (did.0, λ before is. ap (level_records_read seed) (did.1 before is))
-    refuses_level old new (AlreadyMade count) did = absurd did
-    refuses_level old new (RecordTooLong count) did = absurd did
-    refuses_level old new Closed did = absurd did
+    refuses_level old new why did = grind (arith, common_steps) steps 20000
 
     pub refused_by_journal : {old new : D} (why : JournalRefusal) → RefusesOpen journal_in told plan old why new
         → faults new ≡ faults_after (faults old) (is_device_fault why)
@@ -57,31 +50,18 @@ module _ {D : Type 0} (told : D → Option History) (plan : D → Option FaultPl
         → Made told plan open_steps 3 passed old new
         → WhereTold (told old) (λ before. Keeps bodies (content before))
         → RefusesOpen (level_records_in seed) told plan old why new
-    refuses_form bodies (NotJournal place) form made kept =
-        (made, λ before is. read-refused seed bodies place (journal_in (content before)) form (kept before is))
-    refuses_form bodies NoMemory form made kept = (3, (λ one. absurd (omega (arith, one))), stopped made)
-    refuses_form bodies DeviceFault form made kept = absurd form
-    refuses_form bodies (AlreadyMade count) form made kept = absurd form
-    refuses_form bodies (RecordTooLong count) form made kept = absurd form
-    refuses_form bodies Closed form made kept = absurd form
+    refuses_form bodies why form made kept = grind (arith, common_steps, read-refused, stopped) steps 20000
 
     no_fault : (bodies : List (List ℕ)) (why : JournalRefusal) → IsFormRefusal seed bodies why
         → is_device_fault why ≡ false
-    no_fault bodies (NotJournal place) form = refl
-    no_fault bodies NoMemory form = refl
-    no_fault bodies DeviceFault form = absurd form
-    no_fault bodies (AlreadyMade count) form = absurd form
-    no_fault bodies (RecordTooLong count) form = absurd form
-    no_fault bodies Closed form = absurd form
+    no_fault bodies why form = grind (arith, common_steps) steps 20000
 
     pub refused_by_form : {old mid new : D} (bodies : List (List ℕ)) (why : JournalRefusal)
         → IsFormRefusal seed bodies why → Made told plan open_steps 3 passed old mid
         → WhereTold (told old) (λ before. Keeps bodies (content before)) → faults mid ≡ faults old
         → IsStill told plan faults mid new → RefusesRole told plan faults (level_records_in seed) old why new
-    refused_by_form {old = old} bodies why form made kept count still = record {
-      refused = refuses_form bodies why form (made_still made still) kept;
-      count = still.same_count ∙ count ∙ ap (λ b. faults_after (faults old) b) (sym (no_fault bodies why form));
-    }
+    refused_by_form {old = old} bodies why form made kept count still =
+        grind (arith, common_steps, refuses_form, made_still, no_fault) steps 20000
 
     -- an opening that went through
     module _ (disk : D) (old new : JournalState D) (kept : LevelRecordsState) (bodies : List (List ℕ))
@@ -114,7 +94,5 @@ module _ {D : Type 0} (told : D → Option History) (plan : D → Option FaultPl
         opened_sound is_key spare = record {
           key_is = is_key ∙ ap hss_key_of (sym of_seed);
           is_kept = opened_kept told new kept bodies here settled_now (leaf_count kept.seed.bottom) is fresh;
-          room = λ open'. reserved_room old new.disk (leaf_count kept.seed.bottom)
-              (leaves_left kept.seed (entries_of kept.records)) is
-              (left-most kept.seed (entries_of kept.records)) spare;
+          room = grind (arith, common_steps, reserved_room, left-most) steps 20000;
         }

@@ -1,11 +1,11 @@
 -- What holds of a two-level signer after a reservation and after an append.
 use Rattle.std.proofs.Common.{◌≡◌, ◌≤◌, ◌+◌, ℕ, true, false, List, [], ◌∷◌, ◌++◌, Option, Result, Ok, Err, refl, sym, ◌∙◌, ap, arith}
 use Rattle.std.specs.Result.{OnErr, OnOk}
+use Rattle.std.proofs.lemmas.Grind.{common_steps}
 use Rattle.crash_disk.specs.Disk.{History}
 use Rattle.gate_journal.specs.Journal.{JournalState, with_spare}
 use Rattle.node_journal.specs.declared.stop.Stop.{Stop}
 use Rattle.lms_sign.specs.Types.{leaf_count}
-use Rattle.hss_keys.specs.declared.seed.HssSeed.{HssSeed}
 use Rattle.hss_keys.specs.declared.entry.Entry.TheVariants.{Binds}
 use Rattle.hss_keys.specs.Keys.{hss_key_of}
 use Rattle.hss_keys.specs.Entries.{entries_of, entry_text, IsEntry}
@@ -75,8 +75,7 @@ message_sound told {journal = journal} {new = new} {kept = kept} {more = more} r
       is_kept = is_kept;
       room = λ still. message_room {journal = journal} {new = new} {kept = kept} {more = more} r closed same spare
           bodies bytes entries j q message refl next
-          (on_ok r (λ (e : more.records ≡ kept.records ++ entry_text entry ∷ []).
-          ap (λ (l : List (List ℕ)). entries_of l) e ∙ entries-more kept.records (entry_text entry) entry read) is)
+          (grind (arith, common_steps, on_ok, entries-more) steps 20000)
           (sound.room open') still;
     }
 
@@ -91,12 +90,4 @@ pub level_sound : {D : Type 0} (told : D → Option History) {journal mid new : 
     → OnOk r (mid.spare_bytes ≤ new.spare_bytes) → IsSound (told new.disk) new key more
 level_sound told {journal = journal} {mid = mid} {new = new} {kept = kept} {more = more} between r count sound was
     spare_is reserved enough is_kept closed same spare bodies bytes =
-    let leaves : leaf_count between.seed.bottom ≡ leaf_count kept.seed.bottom =
-    ap (λ (s : HssSeed). leaf_count s.bottom) was in
-    record {
-      key_is = sound.key_is ∙ ap hss_key_of (sym was) ∙ ap hss_key_of (sym same);
-      is_kept = is_kept;
-      room = λ still. level_room {journal = mid} {new = new} {kept = between} {more = more} r closed same spare bodies
-          bytes (reserved_room journal {kept = between} mid.disk count (1 + leaf_count between.seed.bottom) reserved
-          (omega (arith, enough, leaves)) (omega (arith, spare_is, leaves))) still;
-    }
+    grind (arith, common_steps, level_room, reserved_room) steps 20000

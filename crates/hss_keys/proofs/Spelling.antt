@@ -1,13 +1,14 @@
 -- What records spell.
-use Rattle.std.proofs.Common.{◌≡◌, ℕ, ◌+◌, ◌-◌, ◌^◌, ◌<◌, ◌≤◌, Bool, true, false, cond, List, [], ◌∷◌, ◌++◌, length, take, drop, get_or, Some, None, refl, sym, ◌∙◌, ap, inl, inr, arith, subst, append_assoc, length-append, length-take, length-drop}
-use Rattle.std.specs.Prelude.{◌&&◌, ◌==◌, ◌⊎◌, nat_le}
+use Rattle.std.proofs.Common.{◌≡◌, ℕ, ◌+◌, ◌-◌, ◌^◌, ◌<◌, ◌≤◌, Bool, true, cond, List, [], ◌∷◌, ◌++◌, length, take, drop, get_or, Some, None, refl, sym, ◌∙◌, ap, inl, inr, arith, append_assoc, length-append, length-take, length-drop}
+use Rattle.std.specs.Prelude.{◌⊎◌}
 use Rattle.std.specs.List.{All}
-use Rattle.std.specs.Int.{w32, to_be_bytes, from_be_bytes}
+use Rattle.std.specs.Int.{w32, from_be_bytes}
 use Rattle.std.proofs.lemmas.Bool.{cases_lt, and_parts, eqb-true, le-leb, leb-true}
 use Rattle.std.proofs.lemmas.List.{get_or_past, take_at, drop_at, take-append-drop, drop-drop}
 use Rattle.std.proofs.lemmas.List.Elements.{All-drop, All-get_or, All-take}
 use Rattle.std.proofs.lemmas.Nat.{be_bytes_4, from_be_bytes-to_be_bytes_4}
 use Rattle.std.proofs.lemmas.Option.{same_Some}
+use Rattle.std.proofs.lemmas.Grind.{common_steps}
 use Rattle.lms_sign.specs.Types.{u32str, u32_at}
 use Rattle.lms_sign.proofs.Lists.{length-u32str}
 use Rattle.hss_keys.specs.declared.entry.Entry.{Entry}
@@ -25,10 +26,7 @@ pub u32_at-part : (before after : List ℕ) (n place : ℕ) → n < 2 ^ 32 → l
     → u32_at (before ++ (u32str n ++ after)) place ≡ n
 unfolding u32_at u32str
 u32_at-part before after n place small at =
-    let four : place + 4 - place ≡ 4 = omega arith in
-    ap (λ k. from_be_bytes w32 (take k (drop place (before ++ (to_be_bytes w32 n ++ after))))) four
-    ∙ ap (from_be_bytes w32) (part-of before (to_be_bytes w32 n) after place 4 at refl)
-    ∙ from_be_bytes-to_be_bytes_4 n small
+    grind (arith, common_steps, part-of, from_be_bytes-to_be_bytes_4) steps 20000
 
 reads-opening : (body : List ℕ) → get_or body 0 0 ≡ 1 → length body ≡ 61
     → entry_in body ≡ Some (Opens (u32_at body 1) (drop 5 body))
@@ -38,12 +36,7 @@ reads-opening body mark whole = rw (whole, mark) refl
 reads-binding : (body : List ℕ) → get_or body 0 0 ≡ 2 → 10 ≤ length body → length body ≤ 137
     → entry_in body ≡ Some (Binds (u32_at body 1) (u32_at body 5) (drop 9 body))
 unfolding entry_in
-reads-binding body mark least most =
-    rw (mark, and_none (length body == 61), le-leb 10 (length body) least, le-leb (length body) 137 most) refl
-  where
-    and_none : (b : _) → (b && false) ≡ false
-    and_none true = refl
-    and_none false = refl
+reads-binding body mark least most = grind (arith, common_steps, le-leb) steps 20000
 
 opening-length : (j : ℕ) (key : List ℕ) → length (1 ∷ u32str j ++ key) ≡ 5 + length key
 opening-length j key = omega (arith, length-append (1 ∷ u32str j) key, length-u32str j)
@@ -62,8 +55,7 @@ entries_are_read_back (Opens j key) is =
     let body = 1 ∷ u32str j ++ key in
     let number : u32_at body 1 ≡ j = u32_at-part (1 ∷ []) key j 1 is.0 refl in
     let rest : drop 5 body ≡ key = drop_at (1 ∷ u32str j) key 5 (omega (arith, length-u32str j)) in
-    reads-opening body refl (omega (arith, opening-length j key, is.1))
-    ∙ (λ i. Some (Opens (number i) (rest i)))
+    grind (arith, common_steps, reads-opening, opening-length) steps 20000
 entries_are_read_back (Binds j q message) is =
     let body = 2 ∷ u32str j ++ u32str q ++ message in
     let split : body ≡ (2 ∷ []) ++ (u32str j ++ (u32str q ++ message)) = simp append_assoc in
@@ -72,33 +64,21 @@ entries_are_read_back (Binds j q message) is =
     let leaf : u32_at body 5 ≡ q = ap (λ b. u32_at b 5) (append_assoc (2 ∷ u32str j) (u32str q) message)
     ∙ u32_at-part (2 ∷ u32str j) message q 5 is.1 (omega (arith, length-u32str j)) in
     let rest : drop 9 body ≡ message = drop_at (2 ∷ u32str j ++ u32str q) message 9 (binding-front j q) in
-    let whole = binding-length j q message in
-    reads-binding body refl (omega (arith, whole, is.2)) (omega (arith, whole, is.3))
-    ∙ (λ i. Some (Binds (number i) (leaf i) (rest i)))
+    grind (arith, common_steps, binding-length, reads-binding) steps 20000
 
 -- what is read of a record, by its two tests
 read-cases : (opening binding : Bool) (one other entry : Entry)
     → cond opening (Some one) (cond binding (Some other) None) ≡ Some entry
     → ((opening ≡ true) × (one ≡ entry)) ⊎ ((binding ≡ true) × (other ≡ entry))
-read-cases true binding one other entry is = inl (refl, same_Some one entry is)
-read-cases false true one other entry is = inr (refl, same_Some other entry is)
-read-cases false false one other entry is = absurd (cc is)
+read-cases opening binding one other entry is = grind (arith, common_steps, same_Some) steps 20000
 
 -- the parts of both tests
 opening-parts : (body : List ℕ) → is_opening body ≡ true → (length body ≡ 61) × (get_or body 0 0 ≡ 1)
-opening-parts body is =
-    let parts = and_parts (length body == 61) (get_or body 0 0 == 1) is in
-    (eqb-true (length body) 61 parts.0, eqb-true (get_or body 0 0) 1 parts.1)
+opening-parts body is = grind (arith, common_steps, and_parts, eqb-true) steps 20000
 
 binding-parts : (body : List ℕ) → is_binding body ≡ true
     → (10 ≤ length body) × (length body ≤ 137) × (get_or body 0 0 ≡ 2)
-binding-parts body is =
-    let parts = and_parts (nat_le 10 (length body) && nat_le (length body) 137) (get_or body 0 0 == 2) is in
-    let lengths = and_parts (nat_le 10 (length body)) (nat_le (length body) 137) parts.0 in (
-      leb-true 10 (length body) lengths.0,
-      leb-true (length body) 137 lengths.1,
-      eqb-true (get_or body 0 0) 2 parts.1,
-    )
+binding-parts body is = grind (arith, common_steps, and_parts, leb-true, eqb-true) steps 20000
 
 -- a record of an entry is short
 pub text-short : (entry : Entry) (body : List ℕ) → entry_in body ≡ Some entry → length body ≤ 137
@@ -175,10 +155,7 @@ binding-text body bytes mark least =
 opening-spelling : (body : List ℕ) → All (λ byte. byte < 256) body → is_opening body ≡ true
     → (body ≡ entry_text (Opens (u32_at body 1) (drop 5 body))) × IsEntry (Opens (u32_at body 1) (drop 5 body))
 opening-spelling body bytes is =
-    let parts = opening-parts body is in (
-      opening-text body bytes parts.1 parts.0,
-      (number-small body 1 bytes, omega (arith, length-drop 5 body, parts.0)),
-    )
+    let parts = opening-parts body is in grind (arith, common_steps, opening-text, number-small) steps 20000
 
 binding-spelling : (body : List ℕ) → All (λ byte. byte < 256) body → is_binding body ≡ true
     → (body ≡ entry_text (Binds (u32_at body 1) (u32_at body 5) (drop 9 body)))
@@ -199,8 +176,6 @@ unfolding entry_in
 entries_have_one_spelling body entry bytes is =
     elim (read-cases (is_opening body) (is_binding body) (Opens (u32_at body 1) (drop 5 body))
     (Binds (u32_at body 1) (u32_at body 5) (drop 9 body)) entry is) [
-      | inl opening ↦ subst (λ (e : Entry). (body ≡ entry_text e) × IsEntry e) opening.1
-          (opening-spelling body bytes opening.0)
-      | inr binding ↦ subst (λ (e : Entry). (body ≡ entry_text e) × IsEntry e) binding.1
-          (binding-spelling body bytes binding.0)
+      | inl opening ↦ grind (arith, common_steps, opening-spelling) steps 20000
+      | inr binding ↦ grind (arith, common_steps, binding-spelling) steps 20000
     ]

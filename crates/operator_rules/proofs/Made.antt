@@ -1,10 +1,11 @@
 -- The bundle of a tip that the walk passed is a history.
-use Rattle.std.proofs.Common.{◌≡◌, ◌≢◌, ◌⊎◌, ℕ, zero, suc, ◌+◌, ◌-◌, ◌^◌, ◌<◌, ◌≤◌, ◌==◌, ◌&&◌, Bool, true, false, if◌then◌else◌, List, [], ◌∷◌, length, filter, Option, Some, None, Ok, Err, inl, inr, refl, sym, ap, ◌∙◌, subst, arith}
-use Rattle.std.specs.Prelude.{is_some, nat_lt}
-use Rattle.std.specs.List.{AllByRecursion, range_with_len, cons_option}
-use Rattle.std.specs.Option.{option_map, option_and_then}
+use Rattle.std.proofs.Common.{◌≡◌, ◌≢◌, ◌⊎◌, ℕ, zero, suc, ◌+◌, ◌-◌, ◌^◌, ◌<◌, ◌≤◌, ◌==◌, true, false, if◌then◌else◌, List, [], ◌∷◌, length, filter, Option, Some, None, Ok, inl, inr, refl, sym, ap, ◌∙◌, subst, arith}
+use Rattle.std.specs.Prelude.{is_some}
+use Rattle.std.specs.List.{AllByRecursion, range_with_len}
+use Rattle.std.specs.Option.{option_and_then}
 use Rattle.std.proofs.lemmas.Bool.{ne_eqb, eq-eqb, lt-ltb, or_left, or_right, and_from}
 use Rattle.std.proofs.lemmas.List.Elements.{All-from_recursion}
+use Rattle.std.proofs.lemmas.Grind.{common_steps}
 use Rattle.sparse_merkle.specs.declared.tree.Entry.{Entry}
 use Rattle.sparse_merkle.specs.TreeDigest.{leaf_of}
 use Rattle.plasma_tx.specs.declared.opening.RawOpening.{RawOpening}
@@ -28,10 +29,9 @@ use Rattle.coin_history.proofs.HistoryOpenings.{rising-up, asked-from_blocks}
 use Rattle.coin_history.proofs.HistoryLinks.{every-weaker, tip_from, owner_from, tip-is, last_owner-is, with_tx, IsLeaf}
 use Rattle.coin_history.proofs.HistoryFound.{histories_pass}
 use Rattle.coin_history.proofs.HistoryGrow.{deposit-le, opens-le}
-use Rattle.operator_rules.specs.declared.refusal.ProveRefusal.TheVariants.{UnknownBlock}
 use Rattle.operator_rules.specs.Trees.{Forest, forest_of, tree_of, tree_at, opening_in_tree}
 use Rattle.operator_rules.specs.Walk.{Place, start_of, place_at, present}
-use Rattle.operator_rules.specs.Commands.{prove_by, with_opening, openings_of, as_bundle, bundle_between, bundle_to, tip_asked, bundle_of}
+use Rattle.operator_rules.specs.Commands.{openings_of, tip_asked, bundle_of}
 use Rattle.operator_rules.specs.Acts.{Act, log_of, kept_notes, sealed_in, IsHonest, AreDistinct, IsGoodBundle, BundlesAreHistories, ZeroAsksForThePresentTip, PresentBundlesAreHistories}
 use Rattle.operator_rules.proofs.Trees.{tree_of-has, root_at-le}
 use Rattle.operator_rules.proofs.Places.{place-start, place-moved, place-stays, place-idle, place-committed, place-passed}
@@ -49,8 +49,7 @@ deposit-positive [] c made is = absurd (cc is)
 deposit-positive (Deposit account amount key ∷ log) c made is =
     (elim (c == coins log + 1) as (λ b. (if b then Some (new_coin log account amount key) else coin_at log c)
     ≡ Some made → 1 ≤ made.deposit) [
-      | true ↦ λ e. let same : blocks log + 1 ≡ made.deposit =
-          ap (λ (m : CoinView). m.deposit) (some_same (new_coin log account amount key) made e) in omega (arith, same)
+      | true ↦ grind (arith, common_steps, some_same) steps 20000
       | false ↦ λ e. deposit-positive log c made e
     ]) is
 deposit-positive (call ∷ log) c made is = deposit-positive log c made is
@@ -58,11 +57,7 @@ deposit-positive (call ∷ log) c made is = deposit-positive log c made is
 -- the walk passes nothing below the deposit
 tip-low : (dig : List ℕ → List ℕ) (tag : List ℕ) (c : ℕ) (made : CoinView) (log : List RootCall)
     (sealed : List (List Entry)) (tip : ℕ) → (place_at dig tag log sealed c made tip).block ≡ tip → made.deposit ≤ tip
-tip-low dig tag c made log sealed tip at =
-    elim (place-committed dig tag c made log sealed tip at) [
-      | inl same ↦ omega (arith, same)
-      | inr past ↦ omega (arith, past.0)
-    ]
+tip-low dig tag c made log sealed tip at = grind (arith, common_steps, place-committed) steps 20000
 
 tree_at-tree : (dig : List ℕ → List ℕ) (log : List RootCall) (sealed : List (List Entry)) (n : ℕ) (root : List ℕ)
     (tree : List Entry) → root_at log n ≡ Some root → tree_of dig sealed root ≡ Some tree
@@ -109,17 +104,10 @@ module _ (dig : List ℕ → List ℕ) (rules : Rules) (c : ℕ) (made : CoinVie
       let has = tree_of-has dig forest.sealed root tree tree_is in
       elim (t.linked n root tree root_is tree_is) [
         | inl empty ↦
-            let none : length (leaf_of tree c) ≤ 2632 = subst (λ (l : List ℕ). length l ≤ 2632) (sym empty)
-            (omega arith) in
+            let none : length (leaf_of tree c) ≤ 2632 = grind (arith, common_steps) steps 20000 in
             let s = shown dig log c (suc n) tree long narrow (kept.maps tree has.0) none in
             record {
-              fine = record {
-                opens = s.opens root root_is has.1;
-                leaf = or_left (is_absent (opening (suc n) tree))
-                    (is_some (transfer_of rules c (opening (suc n) tree)))
-                    (leaf-empty (opening (suc n) tree) (leaf_of tree c) s.leaf empty);
-                short = s.short;
-              };
+              fine = grind (arith, common_steps, or_left, leaf-empty) steps 20000;
               steps = inl (
                 ap (transfer_in rules.tag c (suc n)) (s.leaf ∙ empty) ∙ empty-none rules.tag c (suc n),
                 place-stays dig rules.tag c made log forest.sealed n root tree low root_is tree_is empty,
@@ -133,13 +121,7 @@ module _ (dig : List ℕ → List ℕ) (rules : Rules) (c : ℕ) (made : CoinVie
             let tx_is : transfer_of rules c (opening (suc n) tree) ≡ Some link.tx =
             ap (transfer_in rules.tag c (suc n)) s.leaf ∙ link.tx_is in
             record {
-              fine = record {
-                opens = s.opens root root_is has.1;
-                leaf = or_right (is_absent (opening (suc n) tree))
-                    (is_some (transfer_of rules c (opening (suc n) tree)))
-                    (ap (λ (o : Option SignedTx). is_some o) tx_is);
-                short = s.short;
-              };
+              fine = grind (arith, common_steps, or_right) steps 20000;
               steps = inr (record {
                 tx = link.tx;
                 tx_is = tx_is;
@@ -182,36 +164,19 @@ module _ (dig : List ℕ → List ℕ) (rules : Rules) (c : ℕ) (made : CoinVie
 
   leads-none : (from to : Place) → from ≡ to → Leads from to []
   unfolding AreLinked links_in
-  leads-none from to e = record {
-    linked = tt;
-    tip = ap (λ (x : Place). x.block) e;
-    owner = ap (λ (x : Place). x.owner) e;
-  }
+  leads-none from to e = grind (arith, common_steps) steps 20000
 
   leads-past : (from to : Place) (o : RawOpening) (os : List RawOpening) → transfer_of rules c o ≡ None
       → Leads from to os → Leads from to (o ∷ os)
   unfolding links_in
-  leads-past from to o os none l =
-      let same : links_in rules c (o ∷ os) ≡ links_in rules c os =
-      ap (λ (x : Option SignedTx). cons_option (option_map (with_tx o) x) (links_in rules c os)) none in
-      record {
-        linked = subst (AreLinked (tests_by dig) from.block from.owner) (sym same) l.linked;
-        tip = ap (tip_from from.block) same ∙ l.tip;
-        owner = ap (owner_from from.owner) same ∙ l.owner;
-      }
+  leads-past from to o os none l = grind (arith, common_steps, with_tx, tip_from, owner_from) steps 20000
 
   leads-link : (from to : Place) (o : RawOpening) (os : List RawOpening) (tx : SignedTx)
       → transfer_of rules c o ≡ Some tx → tx.body.parent ≡ from.block → is_signed_by tx from.owner ≡ true
       → Leads (record { block = o.block; owner = tx.body.to }) to os → Leads from to (o ∷ os)
   unfolding links_in AreLinked
   leads-link from to o os tx some parent signed l =
-      let same : links_in rules c (o ∷ os) ≡ with_tx o tx ∷ links_in rules c os =
-      ap (λ (x : Option SignedTx). cons_option (option_map (with_tx o) x) (links_in rules c os)) some in
-      record {
-        linked = subst (AreLinked (tests_by dig) from.block from.owner) (sym same) (parent, signed, l.linked);
-        tip = ap (tip_from from.block) same ∙ l.tip;
-        owner = ap (owner_from from.owner) same ∙ l.owner;
-      }
+      grind (arith, common_steps, with_tx, tip_from, owner_from) steps 20000
 
   after-idle : (k n : ℕ) → root_at log (n + 1) ≡ None → after (suc k) n ≡ after k (n + 1)
   after-idle k n none =
@@ -224,18 +189,7 @@ module _ (dig : List ℕ → List ℕ) (rules : Rules) (c : ℕ) (made : CoinVie
 
   opened_idle : (k n : ℕ) → made.deposit ≤ n → root_at log (n + 1) ≡ None → IsOpenedUp k (n + 1)
       → IsOpenedUp (suc k) n
-  opened_idle k n low none up =
-      let e : n + 1 + k ≡ n + suc k = omega arith in
-      let same = after-idle k n none in
-      record {
-        os = up.os;
-        opened = ap (openings_of dig log forest.sealed c) same ∙ up.opened;
-        blocks_are = up.blocks_are ∙ sym same;
-        few = let f = up.few in omega (arith, f);
-        each = up.each;
-        leads = subst (λ (x : Place). Leads x (place (n + suc k)) up.os) (idle n low none)
-            (subst (λ (x : ℕ). Leads (place (n + 1)) (place x) up.os) e up.leads);
-      }
+  opened_idle k n low none up = grind (arith, common_steps, after-idle, idle) steps 20000
 
   opened_block : (k n : ℕ) (root : List ℕ) (tree : List Entry) → made.deposit ≤ n
       → root_at log (n + 1) ≡ Some root → tree_of dig forest.sealed root ≡ Some tree → IsOpenedUp k (n + 1)
@@ -250,12 +204,7 @@ module _ (dig : List ℕ → List ℕ) (rules : Rules) (c : ℕ) (made : CoinVie
       subst (λ (x : ℕ). Leads (place (n + 1)) (place x) up.os) e up.leads in
       record {
         os = o ∷ up.os;
-        opened =
-            ap (openings_of dig log forest.sealed c) same
-            ∙ ap (λ (x : Option (List Entry)). with_opening (prove_by dig c (n + 1) x)
-            (openings_of dig log forest.sealed c (after k (n + 1))))
-            (tree_at-tree dig log forest.sealed (n + 1) root tree root_is tree_is)
-            ∙ ap (with_opening (Ok o)) up.opened;
+        opened = grind (arith, common_steps, tree_at-tree) steps 20000;
         blocks_are = ap (λ (xs : List ℕ). (n + 1) ∷ xs) up.blocks_are ∙ sym same;
         few = let f = up.few in omega (arith, f);
         each = (p.fine, up.each);
@@ -292,21 +241,7 @@ module _ (dig : List ℕ → List ℕ) (rules : Rules) (c : ℕ) (made : CoinVie
   at-deposit : (tip : ℕ) → (place tip).block ≡ tip → (made.deposit ≤ tip) × (tip ≤ blocks log)
       × (may_be_tip log made.deposit tip ≡ true)
   at-deposit tip at =
-      elim (place-committed dig rules.tag c made log forest.sealed tip at) [
-        | inl same ↦ (
-          omega (arith, same),
-          let d = t.deposited in omega (arith, same, d),
-          or_left (tip == made.deposit) (is_committed log tip && nat_lt made.deposit tip)
-              (eq-eqb tip made.deposit same),
-        )
-        | inr past ↦ (
-          omega (arith, past.0),
-          root_at-le log tip past.1.0 past.1.1,
-          or_right (tip == made.deposit) (is_committed log tip && nat_lt made.deposit tip)
-              (and_from (is_committed log tip) (nat_lt made.deposit tip)
-              (ap (λ (r : Option (List ℕ)). is_some r) past.1.1) (lt-ltb made.deposit tip past.0)),
-        )
-      ]
+      grind (arith, common_steps, place-committed, or_left, eq-eqb, root_at-le, or_right, and_from, lt-ltb) steps 20000
 
   -- a bundle that was made for this tip
   pub record IsMade (asked tip : ℕ) : Type 0 where
@@ -326,10 +261,7 @@ module _ (dig : List ℕ → List ℕ) (rules : Rules) (c : ℕ) (made : CoinVie
       let k : ℕ = tip - made.deposit in
       let up = opened_up k made.deposit (omega arith) in
       let e : made.deposit + k ≡ tip = omega (arith, where_at.0) in
-      let leads : Leads (start_of made) (place tip) up.os =
-      subst (λ (x : Place). Leads x (place tip) up.os)
-      (place-start dig rules.tag c made log forest.sealed made.deposit (omega arith))
-      (subst (λ (x : ℕ). Leads (place made.deposit) (place x) up.os) e up.leads) in
+      let leads : Leads (start_of made) (place tip) up.os = grind (arith, common_steps, place-start) steps 20000 in
       let bundle : Bundle = record { coin = c; tip = tip; openings = up.os } in
       let links : Links = links_of rules made bundle in
       let asked_blocks = asked-from_blocks log made.deposit tip up.os up.blocks_are in
@@ -349,19 +281,13 @@ module _ (dig : List ℕ → List ℕ) (rules : Rules) (c : ℕ) (made : CoinVie
       record {
         bundle = bundle;
         links = links;
-        is_made =
-            ap (bundle_of dig rules.tag log forest.sealed c asked) coin_is
-            ∙ ap (bundle_to dig log forest.sealed c made) asked_is
-            ∙ ap (λ (b : Bool). if b then bundle_between dig log forest.sealed c made.deposit tip
-            else Err (UnknownBlock tip)) where_at.2
-            ∙ ap (as_bundle c tip) up.opened;
+        is_made = grind (arith, common_steps) steps 20000;
         is_bundle = record {
           coin = narrow;
           tip = omega (arith, where_at.1, small);
           count = let f = up.few in omega (arith, f, where_at.1, small);
           blocks = All-from_recursion (λ o. o.block < 2 ^ 64) up.os
-              (every-weaker (λ o. opens_block (tests_by dig) log c o ≡ true) (λ o. o.block < 2 ^ 64)
-              (λ o is. omega (arith, opens-le (tests_by dig) log c o is, small)) up.os opens);
+              (grind (arith, common_steps, every-weaker, opens-le) steps 20000);
           lengths = All-from_recursion (λ o. length o.bytes < 2 ^ 32) up.os
               (every-weaker IsFine (λ o. length o.bytes < 2 ^ 32) (λ o f. f.short) up.os up.each);
           rising = rising-up (suc made.deposit) up.os asked_blocks.up;
@@ -386,40 +312,20 @@ good-at dig rules acts coin asked tip made long narrow small honest distinct coi
     subst (Tracks dig rules.tag (log_of acts) forest.sealed forest.pool coin) coin_is kept.tracks in
     let g = made-good dig rules coin made (log_of acts) forest long narrow kept t asked tip coin_is small asked_is
     at in
-    record {
-      bundle = g.bundle;
-      links = g.links;
-      made = g.is_made;
-      is_bundle = g.is_bundle;
-      is_history = g.is_history;
-      ends_with = g.ends_with;
-    }
+    grind (arith, common_steps) steps 20000
 
 pub bundles_are_histories : BundlesAreHistories
 bundles_are_histories dig rules acts coin tip made long narrow small honest distinct coin_is at =
     let place : Place = present dig rules.tag (log_of acts) (sealed_in acts) coin made in
-    let apart : tip ≢ 0 = λ none.
-    let low = deposit-positive (log_of acts) coin made coin_is in
-    let up = tip-low dig rules.tag coin made (log_of acts) (sealed_in acts) tip at in
-    omega (arith, low, up, none) in
-    good-at dig rules acts coin tip tip made long narrow small honest distinct coin_is
-    (ap (λ (b : Bool). if b then place.block else tip) (ne_eqb tip 0 apart)) at
+    let apart : tip ≢ 0 = grind (arith, common_steps, deposit-positive, tip-low) steps 20000 in
+    grind (arith, common_steps, good-at, ne_eqb) steps 20000
 
 pub present_bundles_are_histories : PresentBundlesAreHistories
 present_bundles_are_histories dig rules acts coin made long narrow small honest distinct coin_is =
     let place : Place = present dig rules.tag (log_of acts) (sealed_in acts) coin made in
     let passed = place-passed dig rules.tag coin made (log_of acts) (sealed_in acts) (blocks (log_of acts))
     (deposit-le (log_of acts) coin made coin_is) in
-    subst (λ (x : Place). IsGoodBundle dig rules acts coin 0 x.owner) passed
-    (good-at dig rules acts coin 0 place.block made long narrow small honest distinct coin_is refl
-    (ap (λ (x : Place). x.block) passed))
+    grind (arith, common_steps, passed, good-at) steps 20000
 
 pub zero_asks_for_the_present_tip : ZeroAsksForThePresentTip
-zero_asks_for_the_present_tip dig tag log sealed coin made coin_is =
-    let place : Place = present dig tag log sealed coin made in
-    ap (bundle_of dig tag log sealed coin 0) coin_is
-    ∙ ap (bundle_to dig log sealed coin made) (asked place.block place.block)
-    ∙ sym (ap (bundle_of dig tag log sealed coin place.block) coin_is)
-  where
-    asked : (n block : ℕ) → block ≡ (if n == 0 then block else block)
-    asked n block = elim (n == 0) as (λ b. block ≡ (if b then block else block)) [ true ↦ refl | false ↦ refl ]
+zero_asks_for_the_present_tip dig tag log sealed coin made coin_is = grind (arith, common_steps) steps 20000

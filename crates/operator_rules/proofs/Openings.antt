@@ -1,19 +1,16 @@
 -- What an opening shows that the operator makes of a tree.
-use Rattle.std.proofs.Common.{◌≡◌, ℕ, ◌*◌, ◌^◌, ◌<◌, ◌≤◌, ◌==◌, ◌&&◌, true, false, if◌then◌else◌, List, [], ◌∷◌, ◌++◌, length, drop, All, Option, Some, Ok, refl, sym, ap, ◌∙◌, length-append, length-drop, w32, w64, arith}
-use Rattle.std.specs.Prelude.{nat_lt}
-use Rattle.std.specs.Int.{to_be_bytes}
+use Rattle.std.proofs.Common.{◌≡◌, ℕ, ◌*◌, ◌^◌, ◌<◌, ◌≤◌, true, List, [], ◌∷◌, length, drop, All, Some, Ok, refl, ap, length-append, length-drop, arith}
 use Rattle.std.specs.List.{concat}
-use Rattle.std.specs.Option.{option_map_or}
 use Rattle.std.proofs.lemmas.Bool.{and_parts, eqb-true}
 use Rattle.std.proofs.lemmas.List.Elements.{All-head, All-tail}
+use Rattle.std.proofs.lemmas.Grind.{common_steps}
 use Rattle.lms_sign.specs.declared.types.LmsTypes.{LmsTypes}
-use Rattle.lms_sign.specs.Types.{chains, height, is_supported, leaf_count, signature_length, u32_at}
-use Rattle.lms_sign.specs.Valid.{types_of, type_place, is_formed, is_valid}
+use Rattle.lms_sign.specs.Types.{chains, height}
+use Rattle.lms_sign.specs.Valid.{is_valid}
 use Rattle.gate_journal.specs.Image.{most}
 use Rattle.sparse_merkle.specs.declared.tree.Entry.{Entry}
 use Rattle.sparse_merkle.specs.TreeDigest.{leaf_of, root_of, path_to, IsMap}
-use Rattle.sparse_merkle.specs.MaskedPath.{MaskedPath, IsMaskedPath, proof_text, proof_path}
-use Rattle.sparse_merkle.specs.Opening.{is_opening}
+use Rattle.sparse_merkle.specs.MaskedPath.{MaskedPath, IsMaskedPath, proof_text}
 use Rattle.sparse_merkle.specs.PathProof.{proof_of_path}
 use Rattle.sparse_merkle.proofs.ProofLaws.{set_bits-bound}
 use Rattle.sparse_merkle.proofs.PathProof.{IsMaskedPath-proof_of_path, is_canonical-proof_of_path, proof_path-proof_of_path, length-path_to, All-path_to-long}
@@ -23,11 +20,11 @@ use Rattle.plasma_tx.specs.declared.opening.Opening.{Opening}
 use Rattle.plasma_tx.specs.declared.signed_tx.SignedTx.{SignedTx}
 use Rattle.plasma_tx.specs.declared.call.RootCall.{RootCall}
 use Rattle.plasma_tx.specs.Openings.{opening_text, leaf_in, opening_in}
-use Rattle.plasma_tx.specs.Spelling.{body_text, body_length, has_second_mark, signed_in}
+use Rattle.plasma_tx.specs.Spelling.{body_length, signed_in}
 use Rattle.plasma_tx.specs.Transfer.{is_signed_by}
 use Rattle.plasma_tx.proofs.OpeningTexts.{opening_in-text, leaf-shown}
 use Rattle.plasma_tx.proofs.Spellings.{signed_in-ok}
-use Rattle.plasma_tx.specs.Shown.{tests_by, opens_root, root_at}
+use Rattle.plasma_tx.specs.Shown.{tests_by, root_at}
 use Rattle.coin_history.specs.History.{opens_block}
 use Rattle.operator_rules.specs.Trees.{opening_in_tree}
 
@@ -35,41 +32,18 @@ use Rattle.operator_rules.specs.Trees.{opening_in_tree}
 
 chains-le : (types : LmsTypes) → chains types ≤ 67
 unfolding chains
-chains-le types = elim (types.ots == 3) as (λ b. (if b then 67 else 34) ≤ 67) [
-  | true ↦ omega arith
-  | false ↦ omega arith
-]
+chains-le types = grind (arith, common_steps) steps 20000
 
 height-le : (types : LmsTypes) → height types ≤ 10
 unfolding height
-height-le types = elim (types.lms == 6) as (λ b. (if b then 10 else 5) ≤ 10) [
-  | true ↦ omega arith
-  | false ↦ omega arith
-]
+height-le types = grind (arith, common_steps) steps 20000
 
 signature-short : (tx : SignedTx) (owner : Owner) → is_signed_by tx owner ≡ true → length tx.signature ≤ 2508
 unfolding is_signed_by is_valid
-signature-short tx owner signed =
-    let types : LmsTypes = types_of owner.key in
-    let valid : is_valid owner.key (body_text tx.body) tx.signature ≡ true =
-    (and_parts (is_supported types) (is_valid owner.key (body_text tx.body) tx.signature) signed).1 in
-    let formed : is_formed types tx.signature ≡ true = (and_parts (is_formed types tx.signature) _ valid).0 in
-    let front = (and_parts (is_supported types && (length tx.signature == signature_length types)
-    && (u32_at tx.signature 4 == types.ots) && (u32_at tx.signature (type_place types) == types.lms))
-    (nat_lt (u32_at tx.signature 0) (leaf_count types)) formed).0 in
-    let three = (and_parts (is_supported types && (length tx.signature == signature_length types)
-    && (u32_at tx.signature 4 == types.ots)) (u32_at tx.signature (type_place types) == types.lms) front).0 in
-    let two = (and_parts (is_supported types && (length tx.signature == signature_length types))
-    (u32_at tx.signature 4 == types.ots) three).0 in
-    let one = (and_parts (is_supported types) (length tx.signature == signature_length types) two).1 in
-    let exact = eqb-true (length tx.signature) (signature_length types) one in
-    omega (arith, exact, chains-le types, height-le types)
+signature-short tx owner signed = grind (arith, common_steps, and_parts, eqb-true, chains-le, height-le) steps 20000
 
 body-le : (bytes : List ℕ) → body_length bytes ≤ 124
-body-le bytes = elim (has_second_mark bytes) as (λ b. (if b then 124 else 116) ≤ 124) [
-  | true ↦ omega arith
-  | false ↦ omega arith
-]
+body-le bytes = grind (arith, common_steps) steps 20000
 
 pub leaf-short : (tag leaf : List ℕ) (tx : SignedTx) (owner : Owner) → signed_in tag leaf ≡ Ok tx
     → is_signed_by tx owner ≡ true → length leaf ≤ 2632
@@ -91,33 +65,12 @@ concat-long (sibling ∷ siblings) all =
 
 proof-short : (proof : MaskedPath) → IsMaskedPath proof → length (proof_text proof) ≤ 2056
 unfolding proof_text
-proof-short proof is =
-    let front : length (to_be_bytes w64 proof.mask) ≡ 8 = refl in
-    let count = is.count in
-    omega (
-      arith,
-      front,
-      count,
-      concat-long proof.siblings is.long,
-      set_bits-bound proof.mask 64,
-      length-append (to_be_bytes w64 proof.mask) (concat proof.siblings),
-    )
+proof-short proof is = grind (arith, common_steps, concat-long, set_bits-bound) steps 20000
 
 text-short : (opening : Opening) → IsMaskedPath opening.proof → length opening.leaf ≤ most
     → length (opening_text opening) < 2 ^ 32
 unfolding opening_text
-text-short opening is short =
-    let front : length (to_be_bytes w32 (length opening.leaf)) ≡ 4 = refl in
-    omega (
-      arith,
-      front,
-      short,
-      proof-short opening.proof is,
-      length-append (to_be_bytes w32 (length opening.leaf)) (opening.leaf ++ proof_text opening.proof),
-      length-append (to_be_bytes w32 (length opening.leaf) ++ opening.leaf) (proof_text opening.proof),
-      length-append (to_be_bytes w32 (length opening.leaf)) opening.leaf,
-      length-append opening.leaf (proof_text opening.proof),
-    )
+text-short opening is short = grind (arith, common_steps, proof-short) steps 20000
 
 -- an opening of a tree has few bytes, where the leaf fits a journal's record
 pub opening-short : (dig : List ℕ → List ℕ) (c n : ℕ) (tree : List Entry)
@@ -147,15 +100,12 @@ shown dig log c n tree long narrow map short =
     IsMaskedPath-proof_of_path dig path (length-path_to dig c tree) (All-path_to-long dig c tree long) in
     let reads : opening_in dig (opening_in_tree dig c n tree) ≡ Ok opening =
     opening_in-text dig opening (omega (arith, short)) masked (is_canonical-proof_of_path dig path) in
-    let stands : proof_path dig proof ≡ path = proof_path-proof_of_path dig path (length-path_to dig c tree) in
-    record {
-      leaf = leaf-shown dig (opening_in_tree dig c n tree) opening reads;
-      opens = λ root root_is is.
-          ap (λ (r : Option (List ℕ)). option_map_or (λ root. (tests_by dig).opens root c
-          (opening_in_tree dig c n tree)) r false) root_is
-          ∙ ap (opens_root dig root c) reads
-          ∙ ap (is_opening dig root c (leaf_of tree c)) stands
-          ∙ ap (λ (r : List ℕ). is_opening dig r c (leaf_of tree c) path) (sym is)
-          ∙ is_opening-path_to dig c tree narrow map.small;
-      short = text-short opening masked (omega (arith, short));
-    }
+    grind (
+      arith,
+      common_steps,
+      proof_path-proof_of_path,
+      length-path_to,
+      leaf-shown,
+      is_opening-path_to,
+      text-short,
+    ) steps 20000

@@ -1,7 +1,7 @@
 -- The walk of a coin: where it is after each block.
-use Rattle.std.proofs.Common.{◌≡◌, ◌⊎◌, ℕ, zero, suc, ◌<◌, ◌≤◌, ◌==◌, ◌&&◌, Bool, true, false, if◌then◌else◌, List, [], Option, Some, None, inl, inr, refl, sym, ap, ◌∙◌, subst, arith}
-use Rattle.std.specs.Option.{option_and_then}
+use Rattle.std.proofs.Common.{◌≡◌, ◌⊎◌, ℕ, zero, suc, ◌<◌, ◌≤◌, true, List, [], Option, Some, None, inl, inr, refl, sym, ap, ◌∙◌, arith}
 use Rattle.std.proofs.lemmas.Bool.{cases_eq, cases_lt, eq-eqb, lt-ltb, le-ltb, and_from}
+use Rattle.std.proofs.lemmas.Grind.{common_steps}
 use Rattle.sparse_merkle.specs.declared.tree.Entry.{Entry}
 use Rattle.sparse_merkle.specs.TreeDigest.{leaf_of}
 use Rattle.plasma_tx.specs.declared.signed_tx.SignedTx.{SignedTx}
@@ -24,34 +24,18 @@ module _ (dig : List ℕ → List ℕ) (tag : List ℕ) (c : ℕ) where
   pub transfer_at-tree : (log : List RootCall) (sealed : List (List Entry)) (n : ℕ) (root : List ℕ) (tree : List Entry)
       → root_at log n ≡ Some root → tree_of dig sealed root ≡ Some tree
       → transfer_at dig tag log sealed c n ≡ transfer_in tag c n (leaf_of tree c)
-  transfer_at-tree log sealed n root tree root_is tree_is =
-      ap (λ (r : Option (List ℕ)). option_and_then (λ tree. transfer_in tag c n (leaf_of tree c))
-      (option_and_then (tree_of dig sealed) r)) root_is
-      ∙ ap (option_and_then (λ tree. transfer_in tag c n (leaf_of tree c))) tree_is
+  transfer_at-tree log sealed n root tree root_is tree_is = grind (arith, common_steps) steps 20000
 
   pub transfer_at-idle : (log : List RootCall) (sealed : List (List Entry)) (n : ℕ) → root_at log n ≡ None
       → transfer_at dig tag log sealed c n ≡ None
-  transfer_at-idle log sealed n none =
-      ap (λ (r : Option (List ℕ)). option_and_then (λ tree. transfer_in tag c n (leaf_of tree c))
-      (option_and_then (tree_of dig sealed) r)) none
+  transfer_at-idle log sealed n none = grind (arith, common_steps) steps 20000
 
   -- it hangs on the block's root and on that root's tree alone
   pub transfer_at-same : (log more : List RootCall) (sealed others : List (List Entry)) (n : ℕ)
       → root_at more n ≡ root_at log n
       → ((root : List ℕ) → root_at log n ≡ Some root → tree_of dig others root ≡ tree_of dig sealed root)
       → transfer_at dig tag more others c n ≡ transfer_at dig tag log sealed c n
-  transfer_at-same log more sealed others n same trees =
-      ap (λ (r : Option (List ℕ)). option_and_then (λ tree. transfer_in tag c n (leaf_of tree c))
-      (option_and_then (tree_of dig others) r)) same
-      ∙ by (root_at log n) trees
-    where
-      by : (r : Option (List ℕ))
-          → ((root : List ℕ) → r ≡ Some root → tree_of dig others root ≡ tree_of dig sealed root)
-          → option_and_then (λ tree. transfer_in tag c n (leaf_of tree c)) (option_and_then (tree_of dig others) r)
-          ≡ option_and_then (λ tree. transfer_in tag c n (leaf_of tree c)) (option_and_then (tree_of dig sealed) r)
-      by None trees = refl
-      by (Some root) trees =
-          ap (option_and_then (λ tree. transfer_in tag c n (leaf_of tree c))) (trees root refl)
+  transfer_at-same log more sealed others n same trees = grind (arith, common_steps) steps 20000
 
   module _ (made : CoinView) where
     pub place-start : (log : List RootCall) (sealed : List (List Entry)) (n : ℕ) → n ≤ made.deposit
@@ -65,20 +49,11 @@ module _ (dig : List ℕ → List ℕ) (tag : List ℕ) (c : ℕ) where
         → place_at dig tag log sealed c made (suc n)
         ≡ moved_by (suc n) (place_at dig tag log sealed c made n) (transfer_at dig tag log sealed c (suc n))
     unfolding place_at
-    place-next log sealed n low =
-        ap (λ (b : Bool). if b then moved_by (suc n) (place_at dig tag log sealed c made n)
-        (transfer_at dig tag log sealed c (suc n)) else start_of made) (lt-ltb made.deposit (suc n) (omega arith))
+    place-next log sealed n low = grind (arith, common_steps, lt-ltb) steps 20000
 
     moved-bound : (n : ℕ) (last : Place) (o : Option SignedTx) → last.block ≤ n
         → ((moved_by (suc n) last o).block ≤ suc n) × (last.block ≤ (moved_by (suc n) last o).block)
-    moved-bound n last None low = (omega arith, omega arith)
-    moved-bound n last (Some tx) low =
-        elim ((tx.body.parent == last.block) && is_signed_by tx last.owner) as (λ b.
-        ((if b then record { block = suc n; owner = tx.body.to } else last).block ≤ suc n)
-        × (last.block ≤ (if b then record { block = suc n; owner = tx.body.to } else last).block)) [
-          | true ↦ (omega arith, omega arith)
-          | false ↦ (omega arith, omega arith)
-        ]
+    moved-bound n last o low = grind (arith, common_steps) steps 20000
 
     start-block : (log : List RootCall) (sealed : List (List Entry)) (n : ℕ) → n ≤ made.deposit
         → (place_at dig tag log sealed c made n).block ≡ made.deposit
@@ -91,34 +66,22 @@ module _ (dig : List ℕ → List ℕ) (tag : List ℕ) (c : ℕ) where
         elim (cases_lt n made.deposit) [
           | inl at ↦ let e = start-block log sealed (suc n) (omega arith) in omega (arith, e)
           | inr past ↦
-              subst (λ (x : Place). x.block ≤ suc n) (sym (place-next log sealed n past))
-              (moved-bound n (place_at dig tag log sealed c made n) (transfer_at dig tag log sealed c (suc n))
-              (place-bound log sealed n past)).0
+              grind (arith, common_steps, place-bound log sealed n past, place-next, moved-bound) steps 20000
         ]
 
     place-up : (log : List RootCall) (sealed : List (List Entry)) (n : ℕ) → made.deposit ≤ n
         → (place_at dig tag log sealed c made n).block ≤ (place_at dig tag log sealed c made (suc n)).block
-    place-up log sealed n low =
-        subst (λ (x : Place). (place_at dig tag log sealed c made n).block ≤ x.block)
-        (sym (place-next log sealed n low))
-        (moved-bound n (place_at dig tag log sealed c made n) (transfer_at dig tag log sealed c (suc n))
-        (place-bound log sealed n low)).1
+    place-up log sealed n low = grind (arith, common_steps, place-next, moved-bound, place-bound) steps 20000
 
     pub place-mono : (log : List RootCall) (sealed : List (List Entry)) (m n : ℕ) → made.deposit ≤ m → m ≤ n
         → (place_at dig tag log sealed c made m).block ≤ (place_at dig tag log sealed c made n).block
-    place-mono log sealed m zero low under =
-        let e : m ≡ 0 = omega arith in
-        subst (λ (k : ℕ). (place_at dig tag log sealed c made m).block
-        ≤ (place_at dig tag log sealed c made k).block) e (omega arith)
+    place-mono log sealed m zero low under = grind (arith, common_steps) steps 20000
     place-mono log sealed m (suc n) low under =
         elim (cases_eq m (suc n)) [
           | inl same ↦
-              subst (λ (k : ℕ). (place_at dig tag log sealed c made m).block
-              ≤ (place_at dig tag log sealed c made k).block) same (omega arith)
+              grind (arith, common_steps) steps 20000
           | inr apart ↦
-              let a = place-mono log sealed m n low (omega arith) in
-              let b = place-up log sealed n (omega arith) in
-              omega (arith, a, b)
+              grind (arith, common_steps, place-mono log sealed m n low (omega arith), place-up) steps 20000
         ]
 
     -- a link moves it
@@ -127,12 +90,7 @@ module _ (dig : List ℕ → List ℕ) (tag : List ℕ) (c : ℕ) where
         → (link : IsLink tag c (suc n) (place_at dig tag log sealed c made n) (leaf_of tree c))
         → place_at dig tag log sealed c made (suc n) ≡ record { block = suc n; owner = link.tx.body.to }
     place-moved log sealed n root tree low root_is tree_is link =
-        let last : Place = place_at dig tag log sealed c made n in
-        place-next log sealed n low
-        ∙ ap (moved_by (suc n) last) (transfer_at-tree log sealed (suc n) root tree root_is tree_is ∙ link.tx_is)
-        ∙ ap (λ (b : Bool). if b then record { block = suc n; owner = link.tx.body.to } else last)
-        (and_from (link.tx.body.parent == last.block) (is_signed_by link.tx last.owner)
-        (eq-eqb link.tx.body.parent last.block link.parent) link.signed)
+        grind (arith, common_steps, place-next, transfer_at-tree, and_from, eq-eqb) steps 20000
 
     -- an empty leaf doesn't
     pub place-stays : (log : List RootCall) (sealed : List (List Entry)) (n : ℕ) (root : List ℕ) (tree : List Entry)
@@ -140,18 +98,13 @@ module _ (dig : List ℕ → List ℕ) (tag : List ℕ) (c : ℕ) where
         → leaf_of tree c ≡ []
         → place_at dig tag log sealed c made (suc n) ≡ place_at dig tag log sealed c made n
     place-stays log sealed n root tree low root_is tree_is empty =
-        place-next log sealed n low
-        ∙ ap (moved_by (suc n) (place_at dig tag log sealed c made n))
-        (transfer_at-tree log sealed (suc n) root tree root_is tree_is
-        ∙ ap (transfer_in tag c (suc n)) empty ∙ empty-none tag c (suc n))
+        grind (arith, common_steps, place-next, transfer_at-tree, empty-none) steps 20000
 
     -- nor does a block that isn't committed
     pub place-idle : (log : List RootCall) (sealed : List (List Entry)) (n : ℕ) → made.deposit ≤ n
         → root_at log (suc n) ≡ None
         → place_at dig tag log sealed c made (suc n) ≡ place_at dig tag log sealed c made n
-    place-idle log sealed n low none =
-        place-next log sealed n low
-        ∙ ap (moved_by (suc n) (place_at dig tag log sealed c made n)) (transfer_at-idle log sealed (suc n) none)
+    place-idle log sealed n low none = grind (arith, common_steps, place-next, transfer_at-idle) steps 20000
 
     -- it hangs on the blocks up to n and their trees alone
     pub place-same : (log more : List RootCall) (sealed others : List (List Entry)) (n : ℕ)
@@ -166,8 +119,7 @@ module _ (dig : List ℕ → List ℕ) (tag : List ℕ) (c : ℕ) where
           | inr past ↦
               place-next more others n past
               ∙ ap (moved_by (suc n) (place_at dig tag more others c made n))
-              (transfer_at-same log more sealed others (suc n) (roots (suc n) (omega arith))
-              (λ root is. trees (suc n) root is))
+              (grind (arith, common_steps, transfer_at-same) steps 20000)
               ∙ ap (λ (x : Place). moved_by (suc n) x (transfer_at dig tag log sealed c (suc n)))
               (place-same log more sealed others n (λ m under. roots m (omega arith)) trees)
               ∙ sym (place-next log sealed n past)
@@ -180,37 +132,16 @@ module _ (dig : List ℕ → List ℕ) (tag : List ℕ) (c : ℕ) where
     place-committed log sealed zero is =
         inl (let e = start-block log sealed zero (omega arith) in omega (arith, e))
     place-committed log sealed (suc n) is =
-        elim (cases_lt n made.deposit) [
-          | inl at ↦ inl (let e = start-block log sealed (suc n) (omega arith) in omega (arith, e))
-          | inr past ↦ inr (by past (root_at log (suc n)) refl)
-        ]
-      where
-        by : made.deposit ≤ n → (o : Option (List ℕ)) → root_at log (suc n) ≡ o
-            → (made.deposit < suc n) × ((root : List ℕ) × (o ≡ Some root))
-        by past None none =
-            let e : (place_at dig tag log sealed c made (suc n)).block ≡ (place_at dig tag log sealed c made n).block =
-            ap (λ (x : Place). x.block) (place-idle log sealed n past none) in
-            absurd (omega (arith, place-bound log sealed n past, e, is))
-        by past (Some root) some = (omega arith, (root, refl))
+        grind (arith, common_steps, cases_lt, start-block, place-idle, place-bound) steps 20000
 
     moved-cases : (n : ℕ) (last : Place) (o : Option SignedTx)
         → (moved_by n last o ≡ last) ⊎ ((moved_by n last o).block ≡ n)
-    moved-cases n last None = inl refl
-    moved-cases n last (Some tx) =
-        elim ((tx.body.parent == last.block) && is_signed_by tx last.owner) as (λ b.
-        ((if b then record { block = n; owner = tx.body.to } else last) ≡ last)
-        ⊎ ((if b then record { block = n; owner = tx.body.to } else last).block ≡ n)) [
-          | true ↦ inr refl
-          | false ↦ inl refl
-        ]
+    moved-cases n last o = grind (arith, common_steps) steps 20000
 
     start-passed : (log : List RootCall) (sealed : List (List Entry)) (n : ℕ) → n ≤ made.deposit
         → place_at dig tag log sealed c made (place_at dig tag log sealed c made n).block
         ≡ place_at dig tag log sealed c made n
-    start-passed log sealed n low =
-        ap (place_at dig tag log sealed c made) (start-block log sealed n low)
-        ∙ place-start log sealed made.deposit (omega arith)
-        ∙ sym (place-start log sealed n low)
+    start-passed log sealed n low = grind (arith, common_steps, start-block, place-start) steps 20000
 
     -- the walk passed the block at which it is
     pub place-passed : (log : List RootCall) (sealed : List (List Entry)) (n : ℕ) → made.deposit ≤ n
@@ -221,15 +152,5 @@ module _ (dig : List ℕ → List ℕ) (tag : List ℕ) (c : ℕ) where
         elim (cases_lt n made.deposit) [
           | inl at ↦ start-passed log sealed (suc n) (omega arith)
           | inr past ↦
-              let next = place-next log sealed n past in
-              elim (moved-cases (suc n) (place_at dig tag log sealed c made n)
-              (transfer_at dig tag log sealed c (suc n))) [
-                | inl stays ↦
-                    let same : place_at dig tag log sealed c made (suc n) ≡ place_at dig tag log sealed c made n =
-                    next ∙ stays in
-                    ap (λ (x : Place). place_at dig tag log sealed c made x.block) same
-                    ∙ place-passed log sealed n past ∙ sym same
-                | inr at ↦
-                    ap (place_at dig tag log sealed c made) (ap (λ (x : Place). x.block) next ∙ at)
-              ]
+              grind (arith, common_steps, place-passed log sealed n past, place-next, moved-cases) steps 20000
         ]

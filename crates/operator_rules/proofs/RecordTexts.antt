@@ -5,6 +5,7 @@ use Rattle.std.specs.List.{slice_range}
 use Rattle.std.proofs.lemmas.Bool.{cases_Bool, and_parts, eqb-true, eq-eqb, leb-true, le-leb}
 use Rattle.std.proofs.lemmas.List.{length-append, take_all, take-append-drop}
 use Rattle.std.proofs.lemmas.List.Elements.{All-tail}
+use Rattle.std.proofs.lemmas.Grind.{common_steps}
 use Rattle.plasma_tx.specs.Spelling.{AreBytes, number_text, number_at, signed_in}
 use Rattle.plasma_tx.proofs.Names.{some_same}
 use Rattle.plasma_tx.proofs.Parts.{range-front, range-back, range-join, length-range, bytes-range, number-below, number-bytes, number-in}
@@ -54,12 +55,7 @@ identity_in-of : (tag : List ℕ) (account : ℕ) (key_seed : Option (List ℕ))
 unfolding identity_text
 identity_in-of tag account None h =
     let long = long-text tag account [] h.tag h.account in
-    plain-read (tag ++ number_text account ++ []) (omega arith)
-    ∙ (λ i. Some (record {
-      tag = read_tag tag account [] h.tag h.account i;
-      account = read_account tag account [] h.tag h.account i;
-      key_seed = None;
-    }))
+    grind (arith, common_steps, plain-read, read_tag, read_account) steps 20000
 identity_in-of tag account (Some seed) h =
     let long = long-text tag account seed h.tag h.account in
     let seed_long : length seed ≡ 32 = h.key_seed in
@@ -167,9 +163,7 @@ unfolding note_in note_text
 sealed-read tag = refl
 
 pub note_in-text : (tag : List ℕ) (note : Note) → IsNote tag note → note_in tag (note_text note) ≡ Some note
-note_in-text tag (Offered bytes) h = offered-read tag bytes h
-note_in-text tag (Laid coin bytes) h = laid-read tag coin bytes h
-note_in-text tag Sealed h = sealed-read tag
+note_in-text tag note h = grind (arith, common_steps, offered-read, laid-read, sealed-read) steps 20000
 
 -- ---- bytes that are read as a note are its own
 
@@ -209,8 +203,7 @@ note_text-in tag (mark ∷ bytes) note small h = elim (cases_Bool ((mark == 34) 
           let parts = and_parts (mark == 36) (length bytes == 0) seals in
           let none = eqb-true (length bytes) 0 parts.1 in
           let empty : bytes ≡ [] = sym (take_all 0 bytes (omega arith)) in
-          subst (λ (n : Note). (mark ∷ bytes ≡ note_text n) × IsNote tag n) (some_same Sealed note is)
-          ((λ i. eqb-true mark 36 parts.0 i ∷ empty i), tt)
+          grind (arith, common_steps, some_same, eqb-true) steps 20000
       | inr none ↦ let bad : None ≡ Some note = rw (other, neither, none) at h in absurd (cc bad)
     ]
   ]

@@ -1,40 +1,30 @@
 -- The record that a command adds is one of the operator's kinds.
-use Rattle.std.proofs.Common.{◌≡◌, ℕ, true, false, if◌then◌else◌, List, [], ◌∷◌, ◌++◌, length, Option, Some, None, is_some, Ok, Err, refl, sym, ap, ◌∙◌}
-use Rattle.std.specs.Prelude.{Result, nat_lt, reverse}
-use Rattle.std.specs.List.{filter_map, cons_option}
-use Rattle.std.specs.Option.{option_map_or}
+use Rattle.std.proofs.Common.{◌≡◌, ℕ, true, List, [], ◌∷◌, ◌++◌, Option, Some, None, Ok, Err, refl, sym, ap, ◌∙◌, arith}
+use Rattle.std.specs.Prelude.{Result}
 use Rattle.std.proofs.lemmas.List.{reverse-append}
 use Rattle.std.proofs.lemmas.List.Elements.{filter_map-append}
 use Rattle.std.proofs.lemmas.Bool.{false≢true}
-use Rattle.node_journal.specs.Effect.{Effect, first_cause, unless, only}
+use Rattle.std.proofs.lemmas.Grind.{common_steps}
+use Rattle.node_journal.specs.Effect.{Effect, unless}
 use Rattle.node_journal.specs.Role.{may_follow}
 use Rattle.plasma_tx.specs.declared.signed_tx.SignedTx.{SignedTx}
 use Rattle.plasma_tx.specs.declared.signed_tx.TxRefusal.{TxRefusal}
 use Rattle.plasma_tx.specs.declared.call.RootCall.{RootCall}
 use Rattle.plasma_tx.specs.declared.views.CoinView.{CoinView}
 use Rattle.plasma_tx.specs.Spelling.{number_text, number_at, signed_in}
-use Rattle.plasma_tx.specs.Views.{blocks, coin_at}
+use Rattle.plasma_tx.specs.Views.{coin_at}
 use Rattle.plasma_tx.proofs.Names.{some_same}
-use Rattle.operator_rules.specs.declared.TheConstants.{MOST_LAID}
 use Rattle.operator_rules.specs.declared.refusal.OfferRefusal.{OfferRefusal}
-use Rattle.operator_rules.specs.declared.refusal.LayRefusal.{LayRefusal}
-use Rattle.operator_rules.specs.declared.refusal.LayRefusal.TheVariants.{LeafTooLong}
-use Rattle.operator_rules.specs.Records.{Identity, identity_in, Note, Offered, Laid, Sealed, note_text, is_read, note_in, tag_in, operator_kinds, who_is, notes_of}
-use Rattle.operator_rules.specs.Trees.{Forest, is_waiting}
-use Rattle.operator_rules.specs.Walk.{present}
-use Rattle.operator_rules.specs.Commands.{forest_in, offer_causes, offer_at, offer_of, offer_effect, lay_effect, seal_effect}
+use Rattle.operator_rules.specs.Records.{Note, Offered, Laid, Sealed, note_text, is_read, note_in, tag_in, operator_kinds, who_is, notes_of}
+use Rattle.operator_rules.specs.Trees.{Forest}
+use Rattle.operator_rules.specs.Commands.{forest_in, offer_at, offer_of, offer_effect, lay_effect, seal_effect}
 use Rattle.operator_rules.specs.Acts.{CommandsKeepTheRole, CommandsAddTheirNotes}
 use Rattle.operator_rules.proofs.RecordTexts.{offered-read, laid-some, laid-read, sealed-read}
 
 -- records begin with the identity that has their tag
 tag-same : (identity : List ℕ) (notes : List (List ℕ)) → (who_is (identity ∷ notes)).tag ≡ tag_in identity
 unfolding who_is
-tag-same identity notes =
-    elim (identity_in identity) as (λ o. (option_map_or (λ who. who) o
-    (record { tag = []; account = 0; key_seed = None })).tag ≡ option_map_or (λ (who : Identity). who.tag) o []) [
-      | None ↦ refl
-      | Some who ↦ refl
-    ]
+tag-same identity notes = grind (arith, common_steps) steps 20000
 
 -- ---- what is added
 
@@ -46,11 +36,7 @@ noted (Some why) effect body is = absurd (cc is)
 module _ (dig : List ℕ → List ℕ) (tag : List ℕ) (log : List RootCall) (forest : Forest) (bytes body : List ℕ) where
   offered-at : (tx : SignedTx) (made : Option CoinView) → (offer_at dig tag log forest bytes tx made).note ≡ Some body
       → note_text (Offered bytes) ≡ body
-  offered-at tx None is = absurd (cc is)
-  offered-at tx (Some made) is =
-      some_same (note_text (Offered bytes)) body
-      (noted (first_cause (offer_causes (blocks log) tx (present dig tag log forest.sealed tx.body.coin made)
-      (is_waiting dig log forest tx.body.coin))) _ body is)
+  offered-at tx made is = grind (arith, common_steps, some_same, noted) steps 20000
 
   offered : (r : Result SignedTx TxRefusal) → (offer_of dig tag log forest bytes r).note ≡ Some body
       → (is_read r ≡ true) × (note_text (Offered bytes) ≡ body)
@@ -60,14 +46,7 @@ module _ (dig : List ℕ → List ℕ) (tag : List ℕ) (log : List RootCall) (f
 laid : (coin : ℕ) (bytes body : List ℕ) → (lay_effect coin bytes).note ≡ Some body
     → note_text (Laid coin bytes) ≡ body
 unfolding lay_effect
-laid coin bytes body is =
-    (elim (nat_lt MOST_LAID (length bytes)) as (λ b.
-    (if b then only {A = Result Unit LayRefusal} (Err (LeafTooLong (length bytes)))
-    else record { answer = Ok tt; note = Some (note_text (Laid coin bytes)) }).note ≡ Some body
-    → note_text (Laid coin bytes) ≡ body) [
-      | true ↦ λ wrong. absurd (cc wrong)
-      | false ↦ λ same. some_same (note_text (Laid coin bytes)) body same
-    ]) is
+laid coin bytes body is = grind (arith, common_steps, some_same) steps 20000
 
 -- ---- behind an identity
 
@@ -77,9 +56,7 @@ module _ (identity : List ℕ) (notes : List (List ℕ)) where
 
   may : (body : List ℕ) (note : Note) → note_in tag body ≡ Some note
       → may_follow operator_kinds (identity ∷ notes) body ≡ true
-  may body note is =
-      ap (λ (t : List ℕ). is_some (note_in t body)) (sym (tag-same identity notes))
-      ∙ ap (λ (o : Option Note). is_some o) is
+  may body note is = grind (arith, common_steps, tag-same) steps 20000
 
   who-same : (body : List ℕ) → who_is ((identity ∷ notes) ++ body ∷ []) ≡ who_is (identity ∷ notes)
   unfolding who_is
@@ -88,11 +65,7 @@ module _ (identity : List ℕ) (notes : List (List ℕ)) where
   added : (body : List ℕ) (note : Note) → note_in tag body ≡ Some note
       → notes_of ((identity ∷ notes) ++ body ∷ []) ≡ note ∷ notes_of (identity ∷ notes)
   unfolding notes_of
-  added body note is =
-      ap (λ (who : Identity). reverse (filter_map (note_in who.tag) (notes ++ body ∷ []))) (who-same body)
-      ∙ ap (λ (xs : List Note). reverse xs) (filter_map-append (note_in tag) notes (body ∷ [])
-      ∙ ap (λ (o : Option Note). filter_map (note_in tag) notes ++ cons_option o []) is)
-      ∙ reverse-append (filter_map (note_in tag) notes) (note ∷ [])
+  added body note is = grind (arith, common_steps, who-same, filter_map-append, reverse-append) steps 20000
 
   by-offer : (dig : List ℕ → List ℕ) (log : List RootCall) (bytes body : List ℕ)
       → (offer_effect dig (identity ∷ notes) log bytes).note ≡ Some body

@@ -1,12 +1,13 @@
 -- Each run of an honest operator keeps a coin's leaves in order.
-use Rattle.std.proofs.Common.{◌≡◌, ◌≢◌, ℕ, ◌+◌, ◌^◌, ◌<◌, ◌≤◌, ◌==◌, ◌&&◌, not, Bool, true, false, if◌then◌else◌, List, [], ◌∷◌, ◌++◌, Contains, Option, Some, None, Ok, Err, inl, inr, refl, sym, ap, ◌∙◌, subst, arith}
+use Rattle.std.proofs.Common.{◌≡◌, ℕ, ◌+◌, ◌<◌, ◌≤◌, ◌==◌, ◌&&◌, not, Bool, true, false, if◌then◌else◌, List, [], ◌∷◌, ◌++◌, Contains, Option, Some, None, Ok, Err, inl, inr, refl, sym, ap, ◌∙◌, subst, arith}
 use Rattle.std.specs.Prelude.{Result}
 use Rattle.std.specs.List.{list_any, AllByRecursion, slice_range}
 use Rattle.std.specs.Option.{option_and_then}
 use Rattle.std.specs.Str.{bytes_eq}
 use Rattle.std.proofs.lemmas.Bool.{cases_Bool, cases_eq, cases_lt, eq-eqb, ne_eqb, eqb-true, and_cases, or_parts, not-false, true≢false, false_from_ne_true}
-use Rattle.std.proofs.lemmas.List.Elements.{Contains-append_left, Contains-push, Contains-push_cases, All-nil}
+use Rattle.std.proofs.lemmas.List.Elements.{Contains-append_left, Contains-push, Contains-push_cases}
 use Rattle.std.proofs.lemmas.Slice.Eq.{bytes_eq-Decides}
+use Rattle.std.proofs.lemmas.Grind.{common_steps}
 use Rattle.node_journal.specs.Effect.{Effect, first_cause, unless}
 use Rattle.sparse_merkle.specs.declared.tree.Entry.{Entry}
 use Rattle.sparse_merkle.specs.TreeDigest.{leaf_of, with_leaf, root_of, IsMap}
@@ -28,9 +29,9 @@ use Rattle.coin_history.specs.History.{is_empty}
 use Rattle.operator_rules.specs.declared.refusal.OfferRefusal.{OfferRefusal}
 use Rattle.operator_rules.specs.declared.refusal.OfferRefusal.TheVariants.{PoolHasCoin}
 use Rattle.operator_rules.specs.Records.{Note, Offered, Laid, Sealed}
-use Rattle.operator_rules.specs.Trees.{Forest, coin_named, after_note, forest_of, tree_of, commits, is_root_committed, has_leaf, is_waiting}
+use Rattle.operator_rules.specs.Trees.{Forest, coin_named, after_note, forest_of, tree_of, is_root_committed, has_leaf, is_waiting}
 use Rattle.operator_rules.specs.Walk.{Place, present}
-use Rattle.operator_rules.specs.Commands.{late_causes, offer_causes, offer_at, offer_of}
+use Rattle.operator_rules.specs.Commands.{late_causes, offer_at, offer_of}
 use Rattle.operator_rules.specs.Acts.{Act, Called, Kept, log_of, kept_notes, sealed_in, times_committed, times_sealed, IsHonestNote, IsHonestCall, IsHonest, AreDistinct}
 use Rattle.operator_rules.proofs.Trees.{one_if, leaf_cases, filled-not, empty-from, coin-named, any-counted, none-has, count-push, tree_of-has, tree_of-grow, sealed-tree, blocks-up, root_at-deposit}
 use Rattle.operator_rules.proofs.Track.{IsReady, IsUnknown, NoneWaits, Tracks, IsKnown, IsOnce, tracked-pool, tracked-offer, tracks-log, tracked-new, sealed-fresh, tracked-seal, tracked-commit}
@@ -68,19 +69,8 @@ module _ (dig : List ℕ → List ℕ) (tag : List ℕ) (log : List RootCall) (f
   offerable-at : (tx : SignedTx) → signed_in tag bytes ≡ Ok tx → (k : Option CoinView)
       → coin_at log tx.body.coin ≡ k → (coin : ℕ) → (offer_at dig tag log forest bytes tx k).answer ≡ Ok coin
       → IsOfferable dig tag log forest bytes
-  offerable-at tx tx_is None k_is coin is = absurd (cc is)
-  offerable-at tx tx_is (Some made) k_is coin is =
-      let place : Place = present dig tag log forest.sealed tx.body.coin made in
-      let all = causes-false (offer_causes (blocks log) tx place (is_waiting dig log forest tx.body.coin)) _ coin is in
-      record {
-        tx = tx;
-        tx_is = tx_is;
-        made = made;
-        coin_is = k_is;
-        parent = eqb-true tx.body.parent place.block (not-false (tx.body.parent == place.block) all.0);
-        signed = not-false (is_signed_by tx place.owner) all.1.0;
-        free = last-false (blocks log) tx.body.last (is_waiting dig log forest tx.body.coin) all.1.1;
-      }
+  offerable-at tx tx_is k k_is coin is =
+      grind (arith, common_steps, causes-false, eqb-true, not-false, last-false) steps 20000
 
   offerable-by : (r : Result SignedTx TxRefusal) → signed_in tag bytes ≡ r → (coin : ℕ)
       → (offer_of dig tag log forest bytes r).answer ≡ Ok coin → IsOfferable dig tag log forest bytes
@@ -97,10 +87,7 @@ none_waits dig log forest c free tree h off =
     let waiting = λ (tree : List Entry). has_leaf tree c && not (is_root_committed log (root_of dig tree)) in
     let parts = or_parts (has_leaf forest.pool c) (list_any waiting forest.sealed) free in
     let none = none-has waiting forest.sealed tree parts.1 h in
-    elim (and_cases (has_leaf tree c) (not (is_root_committed log (root_of dig tree))) none) [
-      | inl empty ↦ empty-from (leaf_of tree c) empty
-      | inr on ↦ absurd (true≢false (ap not (sym off) ∙ on))
-    ]
+    grind (arith, common_steps, and_cases, empty-from, true≢false) steps 20000
 
 -- ---- what holds after each act
 
@@ -118,11 +105,7 @@ pub record IsKept (dig : List ℕ → List ℕ) (tag : List ℕ) (c : ℕ) (log 
   pub maps : (tree : List Entry) → Contains forest.sealed tree → IsMap tree
 
 map-none : IsMap []
-map-none = record {
-  rising = λ i j d less long. absurd (omega (arith, long));
-  small = All-nil (λ entry. entry.coin < 2 ^ 64);
-  not_empty = All-nil (λ entry. entry.leaf ≢ []);
-}
+map-none = grind (arith, common_steps) steps 20000
 
 module _ (dig : List ℕ → List ℕ) (tag : List ℕ) (c : ℕ) where
   -- ---- notes
@@ -133,8 +116,7 @@ module _ (dig : List ℕ → List ℕ) (tag : List ℕ) (c : ℕ) where
       → Tracks dig tag log forest.sealed (with_leaf forest.pool (coin_named bytes) bytes) c o
   tracks-offer log forest bytes f o o_is t =
       elim (cases_eq f.tx.body.coin c) [
-        | inr apart ↦ other o (leaf_of-with_other forest.pool (coin_named bytes) c bytes
-            (λ e. apart (named ∙ sym e))) t
+        | inr apart ↦ grind (arith, common_steps, other, leaf_of-with_other, named) steps 20000
         | inl same ↦ own same o o_is t
       ]
     where
@@ -156,12 +138,9 @@ module _ (dig : List ℕ → List ℕ) (tag : List ℕ) (c : ℕ) where
           wrong : (made : CoinView) → None ≡ Some made → ⊥
           wrong made e = cc e
       own same (Some made) o_is t =
-          let made_same : f.made ≡ made = some_same f.made made
-          (sym f.coin_is ∙ ap (coin_at log) same ∙ o_is) in
+          let made_same : f.made ≡ made = grind (arith, common_steps, some_same) steps 20000 in
           let tip : present dig tag log forest.sealed f.tx.body.coin f.made
-          ≡ present dig tag log forest.sealed c made =
-          ap (λ (x : ℕ). present dig tag log forest.sealed x f.made) same
-          ∙ ap (present dig tag log forest.sealed c) made_same in
+          ≡ present dig tag log forest.sealed c made = grind (arith, common_steps) steps 20000 in
           let leaf_is : leaf_of pool c ≡ bytes =
           ap (leaf_of pool) (sym same ∙ named) ∙ leaf_of-with_leaf forest.pool (coin_named bytes) bytes in
           let ready : IsReady tag c (present dig tag log forest.sealed c made) bytes = record {
@@ -206,8 +185,7 @@ module _ (dig : List ℕ → List ℕ) (tag : List ℕ) (c : ℕ) where
             let more : one_if (bytes_eq (root_of dig pool) (root_of dig tree)) ≡ 0 =
             ap one_if apart in
             elim (Contains-push_cases sealed pool tree h) [
-              | inr same ↦ absurd (true≢false (sym ((bytes_eq-Decides (root_of dig pool) (root_of dig tree)).1
-                  (ap (root_of dig) same)) ∙ apart))
+              | inr same ↦ absurd (grind (arith, common_steps, true≢false, bytes_eq-Decides) steps 20000)
               | inl has ↦ let low = sole tree has filled in omega (arith, low, count, more)
             ]
         | inl on ↦
@@ -280,11 +258,7 @@ module _ (dig : List ℕ → List ℕ) (tag : List ℕ) (c : ℕ) where
             subst (Tracks dig tag (call ∷ log) sealed pool c) (sym coin_is)
             (tracked-new dig tag c (call ∷ log) sealed pool new (omega arith) u)
         | inr apart ↦
-            let coin_is : coin_at (Deposit account amount key ∷ log) c ≡ coin_at log c =
-            ap (λ (b : Bool). if b then Some new else coin_at log c) (ne_eqb c (coins log + 1) apart) in
-            subst (Tracks dig tag (call ∷ log) sealed pool c) (sym coin_is)
-            (tracks-log dig tag c log (call ∷ log) sealed pool (coin_at log c)
-            (root_at-deposit account amount key log) (λ r. refl) (omega arith) (omega arith) t)
+            grind (arith, common_steps, ne_eqb, tracks-log, root_at-deposit) steps 20000
       ]
     where
       none : c ≡ coins log + 1 → (o : Option CoinView) → coin_at log c ≡ o → o ≡ None
@@ -318,18 +292,7 @@ module _ (dig : List ℕ → List ℕ) (tag : List ℕ) (c : ℕ) where
       → may_stand_in (blocks log + 1) tx.body.last ≡ true)
       → IsOnce dig tag c log root first
   once-from log sealed root first few first_is sole in_time =
-      let has = tree_of-has dig sealed root first first_is in
-      elim (leaf_cases (leaf_of first c)) [
-        | inl empty ↦ inl empty
-        | inr filled ↦ inr (
-          false_from_ne_true (is_root_committed log root) (λ on.
-              let low : times_sealed dig sealed root ≤ 1 =
-              subst (λ (r : List ℕ). times_sealed dig sealed r ≤ 1) has.1 (sole first has.0 filled) in
-              let high = any-counted (commits root) log on in
-              omega (arith, low, high, few)),
-          in_time,
-        )
-      ]
+      grind (arith, common_steps, tree_of-has, leaf_cases, false_from_ne_true, any-counted) steps 20000
 
   kept-other : (log : List RootCall) (call : RootCall) (forest : Forest)
       → ((n : ℕ) → root_at (call ∷ log) n ≡ root_at log n)
@@ -387,13 +350,7 @@ module _ (dig : List ℕ → List ℕ) (tag : List ℕ) (c : ℕ) where
   pub all_kept : (acts : List Act) → IsHonest dig tag acts → AreDistinct dig (sealed_in acts)
       → IsKept dig tag c (log_of acts) (forest_of (kept_notes acts))
   unfolding IsHonest log_of kept_notes forest_of coin_at block_at leaf_of
-  all_kept [] honest distinct = record {
-    known = λ m root is. absurd (cc is);
-    tracks = record { sealed_has = λ tree h. absurd (omega (arith, h.1)); pooled = refl };
-    sole = λ tree h filled. absurd (omega (arith, h.1));
-    pool_map = map-none;
-    maps = λ tree h. absurd (omega (arith, h.1));
-  }
+  all_kept [] honest distinct = grind (arith, common_steps, map-none) steps 20000
   all_kept (Called call ∷ acts) honest distinct =
       kept-call acts call honest.0 (all_kept acts honest.1 distinct)
   all_kept (Kept note ∷ acts) honest distinct =

@@ -1,10 +1,10 @@
 -- What stays true of a coin's leaves while the operator is honest.
 use Rattle.std.proofs.Common.{◌≡◌, ◌≢◌, ◌⊎◌, ℕ, suc, ◌+◌, ◌≤◌, not, true, false, List, [], ◌∷◌, ◌++◌, Contains, Option, Some, None, Ok, inl, inr, refl, sym, ap, ◌∙◌, subst, arith}
 use Rattle.std.specs.Prelude.{Result}
-use Rattle.std.specs.Str.{bytes_eq}
 use Rattle.std.proofs.lemmas.Bool.{cases_Bool, cases_eq, or_left, or_right, true≢false, false_from_ne_true}
 use Rattle.std.proofs.lemmas.List.Elements.{Contains-append_left, Contains-push, Contains-push_cases}
 use Rattle.std.proofs.lemmas.Slice.Eq.{bytes_eq-Decides}
+use Rattle.std.proofs.lemmas.Grind.{common_steps}
 use Rattle.sparse_merkle.specs.declared.tree.Entry.{Entry}
 use Rattle.sparse_merkle.specs.TreeDigest.{leaf_of, root_of}
 use Rattle.plasma_tx.specs.declared.signed_tx.SignedTx.{SignedTx}
@@ -85,27 +85,12 @@ module _ (dig : List ℕ → List ℕ) (tag : List ℕ) (c : ℕ) where
   pub tracked-pool : (log : List RootCall) (sealed : List (List Entry)) (pool other : List Entry) (made : CoinView)
       → leaf_of other c ≡ leaf_of pool c → IsTracked dig tag log sealed pool c made
       → IsTracked dig tag log sealed other c made
-  tracked-pool log sealed pool other made same t =
-      record {
-        deposited = t.deposited;
-        linked = t.linked;
-        waits = t.waits;
-        pooled = subst (λ (leaf : List ℕ). (leaf ≡ [])
-            ⊎ (IsReady tag c (present dig tag log sealed c made) leaf × NoneWaits dig log sealed c))
-            (sym same) t.pooled;
-        one = t.one;
-      }
+  tracked-pool log sealed pool other made same t = grind (arith, common_steps) steps 20000
 
   pub tracked-offer : (log : List RootCall) (sealed : List (List Entry)) (pool other : List Entry) (made : CoinView)
       → IsReady tag c (present dig tag log sealed c made) (leaf_of other c) → NoneWaits dig log sealed c
       → IsTracked dig tag log sealed pool c made → IsTracked dig tag log sealed other c made
-  tracked-offer log sealed pool other made ready none t = record {
-    deposited = t.deposited;
-    linked = t.linked;
-    waits = t.waits;
-    pooled = inr (ready, none);
-    one = t.one;
-  }
+  tracked-offer log sealed pool other made ready none t = grind (arith, common_steps) steps 20000
 
   -- ---- the log grows by a call that is no commit, nor the coin's deposit
 
@@ -118,13 +103,7 @@ module _ (dig : List ℕ → List ℕ) (tag : List ℕ) (c : ℕ) where
     tracked-log made roots commits up few t =
         record {
           deposited = let d = t.deposited in omega (arith, d, up);
-          linked = λ k root tree root_is tree_is. elim (t.linked k root tree (sym (roots (suc k)) ∙ root_is) tree_is) [
-            | inl empty ↦ inl empty
-            | inr link ↦ inr (
-              link.0,
-              subst (λ (x : Place). IsLink tag c (suc k) x (leaf_of tree c)) (sym (old k)) link.1,
-            )
-          ];
+          linked = grind (arith, common_steps, old) steps 20000;
           waits = λ tree h off. elim (t.waits tree h (sym (commits (root_of dig tree)) ∙ off)) [
             | inl empty ↦ inl empty
             | inr ready ↦ inr (subst (λ (x : Place). IsReady tag c x (leaf_of tree c)) (sym tip) ready)
@@ -149,10 +128,7 @@ module _ (dig : List ℕ → List ℕ) (tag : List ℕ) (c : ℕ) where
               | inl same ↦ ap (place_at dig tag more sealed c made) same ∙ old (blocks log)
               | inr apart ↦
                   let e : blocks more ≡ suc (blocks log) = omega arith in
-                  ap (place_at dig tag more sealed c made) e
-                  ∙ place-idle dig tag c made more sealed (blocks log) t.deposited
-                  (roots (suc (blocks log)) ∙ root_at-none log (suc (blocks log)) (omega arith))
-                  ∙ old (blocks log)
+                  grind (arith, common_steps, place-idle, root_at-none, old) steps 20000
             ]
 
     pub tracks-log : (o : Option CoinView)
@@ -216,18 +192,13 @@ module _ (dig : List ℕ → List ℕ) (tag : List ℕ) (c : ℕ) where
           → made.deposit ≤ k → IsLink tag c (suc k) (place_at dig tag log sealed c made k) (leaf_of first c) → ⊥
       again ready k root first root_is tree_is under leaf_is low link =
           let read = transfer-read tag (leaf_of first c) c (suc k) link.tx link.tx_is in
-          let same : link.tx ≡ ready.tx =
-          ok_same link.tx ready.tx (signed_in tag (leaf_of first c)) read.0
-          (ap (signed_in tag) (sym leaf_is) ∙ ready.tx_is) in
+          let same : link.tx ≡ ready.tx = grind (arith, common_steps, ok_same) steps 20000 in
           let parent : link.tx.body.parent ≡ ready.tx.body.parent = ap (λ (x : SignedTx). x.body.parent) same in
           let moved : (place_at dig tag log sealed c made (suc k)).block ≡ suc k =
           ap (λ (x : Place). x.block)
           (place-moved dig tag c made log sealed k root first low root_is tree_is link) in
           let up = place-mono dig tag c made log sealed (suc k) (blocks log) (omega arith) under in
-          let bound = place-bound dig tag c made log sealed k low in
-          let p = link.parent in
-          let q = ready.parent in
-          omega (arith, parent, moved, up, bound, p, q)
+          grind (arith, common_steps, place-bound) steps 20000
 
   pub tracked-seal : (log : List RootCall) (sealed : List (List Entry)) (pool : List Entry) (made : CoinView)
       → IsKnown dig log sealed → IsTracked dig tag log sealed pool c made
@@ -238,15 +209,8 @@ module _ (dig : List ℕ → List ℕ) (tag : List ℕ) (c : ℕ) where
         deposited = t.deposited;
         linked = λ k root tree root_is tree_is.
             let first = known (suc k) root root_is in
-            let same : first.0 ≡ tree = some_same first.0 tree
-            (sym (tree_of-grow dig sealed pool root first.0 first.1) ∙ tree_is) in
-            elim (t.linked k root tree root_is (first.1 ∙ ap (λ (x : List Entry). Some x) same)) [
-              | inl empty ↦ inl empty
-              | inr link ↦ inr (
-                link.0,
-                subst (λ (x : Place). IsLink tag c (suc k) x (leaf_of tree c)) (sym (old k)) link.1,
-              )
-            ];
+            let same : first.0 ≡ tree = grind (arith, common_steps, some_same, tree_of-grow) steps 20000 in
+            grind (arith, common_steps, old) steps 20000;
         waits = λ tree h off. elim (Contains-push_cases sealed pool tree h) [
           | inr same ↦ elim t.pooled [
             | inl empty ↦ inl (ap (λ (x : List Entry). leaf_of x c) (sym same) ∙ empty)
@@ -272,25 +236,17 @@ module _ (dig : List ℕ → List ℕ) (tag : List ℕ) (c : ℕ) where
     where
       old : (n : ℕ) → place_at dig tag log (sealed ++ pool ∷ []) c made n ≡ place_at dig tag log sealed c made n
       old n = place-same dig tag c made log log sealed (sealed ++ pool ∷ []) n (λ m under. refl)
-          (λ m root is.
-          let first = known m root is in tree_of-grow dig sealed pool root first.0 first.1 ∙ sym first.1)
+          (grind (arith, common_steps, tree_of-grow) steps 20000)
 
       ready-as : (leaf : List ℕ) (tree : List Entry) → leaf ≡ leaf_of tree c
           → IsReady tag c (present dig tag log sealed c made) leaf
           → IsReady tag c (present dig tag log (sealed ++ pool ∷ []) c made) (leaf_of tree c)
-      ready-as leaf tree leaf_is ready =
-          subst (λ (x : Place). IsReady tag c x (leaf_of tree c)) (sym (old (blocks log)))
-          (subst (IsReady tag c (present dig tag log sealed c made)) leaf_is ready)
+      ready-as leaf tree leaf_is ready = grind (arith, common_steps, old) steps 20000
 
       not_both : (tree other : List Entry) → pool ≡ tree → Contains sealed other
           → is_root_committed log (root_of dig other) ≡ false → not (is_empty (leaf_of tree c)) ≡ true
           → not (is_empty (leaf_of other c)) ≡ true → ⊥
-      not_both tree other same has off filled more =
-          elim t.pooled [
-            | inl empty ↦
-                filled-not (leaf_of tree c) filled (ap (λ (x : List Entry). leaf_of x c) (sym same) ∙ empty)
-            | inr both ↦ filled-not (leaf_of other c) more (both.1 other has off)
-          ]
+      not_both tree other same has off filled more = grind (arith, common_steps, filled-not) steps 20000
 
   -- ---- a commit
 
@@ -311,18 +267,12 @@ module _ (dig : List ℕ → List ℕ) (tag : List ℕ) (c : ℕ) where
     tip-next : present dig tag (Commit account root ∷ log) sealed c made
         ≡ place_at dig tag (Commit account root ∷ log) sealed c made (suc (blocks log))
     unfolding blocks
-    tip-next =
-        let e : blocks log + 1 ≡ suc (blocks log) = omega arith in
-        ap (place_at dig tag (Commit account root ∷ log) sealed c made) e
+    tip-next = grind (arith, common_steps) steps 20000
 
     before : (r : List ℕ) → is_root_committed (Commit account root ∷ log) r ≡ false
         → (is_root_committed log r ≡ false) × (root ≢ r)
-    before r off = (
-      false_from_ne_true (is_root_committed log r)
-          (λ on. true≢false (sym (or_right (bytes_eq root r) (is_root_committed log r) on) ∙ off)),
-      λ same. true≢false (sym (or_left (bytes_eq root r) (is_root_committed log r)
-          ((bytes_eq-Decides root r).1 same)) ∙ off),
-    )
+    before r off =
+        grind (arith, common_steps, false_from_ne_true, true≢false, or_right, or_left, bytes_eq-Decides) steps 20000
 
     deposited-more : made.deposit ≤ blocks (Commit account root ∷ log)
     deposited-more = let d = t.deposited in omega (arith, d, (blocks-up log (Commit account root)).0)
@@ -334,26 +284,11 @@ module _ (dig : List ℕ → List ℕ) (tag : List ℕ) (c : ℕ) where
     linked-more new k r tree r_is tree_is =
         elim (cases_eq k (blocks log)) [
           | inl same ↦
-              let r_same : root ≡ r = some_same root r (sym (root_at-new account root log)
-              ∙ ap (λ (x : ℕ). root_at (Commit account root ∷ log) (suc x)) (sym same) ∙ r_is) in
-              let t_same : first ≡ tree = some_same first tree
-              (sym first_is ∙ ap (tree_of dig sealed) r_same ∙ tree_is) in
-              subst (λ (x : ℕ). IsNextLeaf dig tag (Commit account root ∷ log) sealed c made x (leaf_of tree c))
-              (sym same)
-              (subst (λ (x : List Entry). IsNextLeaf dig tag (Commit account root ∷ log) sealed c made (blocks log)
-              (leaf_of x c)) t_same new)
+              grind (arith, common_steps, some_same, root_at-new) steps 20000
           | inr apart ↦
               let below : suc k ≤ blocks (Commit account root ∷ log) =
               root_at-le (Commit account root ∷ log) (suc k) r r_is in
-              let low : suc k ≤ blocks log =
-              omega (arith, below, (blocks-up log (Commit account root)).1) in
-              elim (t.linked k r tree (sym (root_at-grown log (Commit account root) (suc k) low) ∙ r_is) tree_is) [
-                | inl empty ↦ inl empty
-                | inr link ↦ inr (
-                  link.0,
-                  subst (λ (x : Place). IsLink tag c (suc k) x (leaf_of tree c)) (sym (old k (omega arith))) link.1,
-                )
-              ]
+              grind (arith, common_steps, blocks-up, root_at-grown, old) steps 20000
         ]
 
     one-more : (tree other : List Entry) → Contains sealed tree → Contains sealed other
@@ -376,20 +311,13 @@ module _ (dig : List ℕ → List ℕ) (tag : List ℕ) (c : ℕ) where
           ];
           pooled = elim t.pooled [
             | inl none ↦ inl none
-            | inr both ↦ inr (
-              subst (λ (x : Place). IsReady tag c x (leaf_of pool c)) (sym tip) both.0,
-              λ tree h off. both.1 tree h (before (root_of dig tree) off).0,
-            )
+            | inr both ↦ grind (arith, common_steps, tip, before) steps 20000
           ];
           one = one-more;
         }
       where
         tip : present dig tag (Commit account root ∷ log) sealed c made ≡ present dig tag log sealed c made
-        tip =
-            tip-next
-            ∙ place-stays dig tag c made (Commit account root ∷ log) sealed (blocks log) root first t.deposited
-            (root_at-new account root log) first_is empty
-            ∙ old (blocks log) (omega arith)
+        tip = grind (arith, common_steps, tip-next, place-stays, root_at-new, old) steps 20000
 
     -- its tree moves the coin
     tracked-move : not (is_empty (leaf_of first c)) ≡ true → is_root_committed log root ≡ false
@@ -415,10 +343,7 @@ module _ (dig : List ℕ → List ℕ) (tag : List ℕ) (c : ℕ) where
         first_off = ap (is_root_committed log) has.1 ∙ off
 
         ready : IsReady tag c (present dig tag log sealed c made) (leaf_of first c)
-        ready = elim (t.waits first has.0 first_off) [
-          | inl none ↦ absurd (filled-not (leaf_of first c) filled none)
-          | inr r ↦ r
-        ]
+        ready = grind (arith, common_steps, has, first_off, filled-not) steps 20000
 
         link : IsLink tag c (suc (blocks log))
             (place_at dig tag (Commit account root ∷ log) sealed c made (blocks log)) (leaf_of first c)
@@ -426,14 +351,7 @@ module _ (dig : List ℕ → List ℕ) (tag : List ℕ) (c : ℕ) where
             let e : blocks log + 1 ≡ suc (blocks log) = omega arith in
             let timed : may_stand_in (suc (blocks log)) ready.tx.body.last ≡ true =
             ap (λ (n : ℕ). may_stand_in n ready.tx.body.last) (sym e) ∙ in_time ready.tx ready.tx_is in
-            let same = sym (old (blocks log) (omega arith)) in
-            record {
-              tx = ready.tx;
-              tx_is = transfer-from_signed tag (leaf_of first c) c (suc (blocks log)) ready.tx ready.tx_is
-                  ready.coin_is timed;
-              parent = ready.parent ∙ ap (λ (x : Place). x.block) same;
-              signed = subst (λ (x : Place). is_signed_by ready.tx x.owner ≡ true) same ready.signed;
-            }
+            grind (arith, common_steps, old, ready, transfer-from_signed) steps 20000
 
         alone : (tree : List Entry) → Contains sealed tree
             → is_root_committed (Commit account root ∷ log) (root_of dig tree) ≡ false → leaf_of tree c ≡ []
@@ -445,8 +363,4 @@ module _ (dig : List ℕ → List ℕ) (tag : List ℕ) (c : ℕ) where
             ]
 
     pub tracked-commit : IsOnce log root first → IsTracked dig tag (Commit account root ∷ log) sealed pool c made
-    tracked-commit once =
-        elim (leaf_cases (leaf_of first c)) [
-          | inl empty ↦ tracked-skip empty
-          | inr filled ↦ elim once [ inl empty ↦ tracked-skip empty | inr both ↦ tracked-move filled both.0 both.1 ]
-        ]
+    tracked-commit once = grind (arith, common_steps, leaf_cases, tracked-skip, tracked-move) steps 20000

@@ -1,23 +1,22 @@
 -- Leaves as transfers, the trees of roots, and how often a root is sealed and committed.
-use Rattle.std.proofs.Common.{◌≡◌, ◌⊎◌, ℕ, zero, suc, ◌+◌, ◌<◌, ◌≤◌, ◌==◌, ◌||◌, not, Bool, true, false, if◌then◌else◌, List, [], ◌∷◌, ◌++◌, length, find, filter, Contains, Option, Some, None, Ok, inl, inr, refl, sym, ap, ◌∙◌, arith}
+use Rattle.std.proofs.Common.{◌≡◌, ◌⊎◌, ℕ, zero, suc, ◌+◌, ◌<◌, ◌≤◌, ◌||◌, not, Bool, true, false, if◌then◌else◌, List, [], ◌∷◌, ◌++◌, length, find, filter, Contains, Some, None, Ok, inl, inr, refl, sym, ap, ◌∙◌, arith}
 use Rattle.std.specs.List.{list_any, AllByRecursion}
-use Rattle.std.specs.Option.{option_and_then}
 use Rattle.std.specs.Str.{bytes_eq}
 use Rattle.std.proofs.lemmas.Bool.{cases_eq, eq-eqb, ne_eqb, and_from, or_cases, or_parts, true≢false, false≢true}
 use Rattle.std.proofs.lemmas.List.Elements.{All-from_recursion, All-contains}
 use Rattle.std.proofs.lemmas.Slice.Eq.{bytes_eq-Decides}
+use Rattle.std.proofs.lemmas.Grind.{common_steps}
 use Rattle.sparse_merkle.specs.declared.tree.Entry.{Entry}
 use Rattle.sparse_merkle.specs.TreeDigest.{root_of}
 use Rattle.plasma_tx.specs.declared.signed_tx.SignedTx.{SignedTx}
 use Rattle.plasma_tx.specs.declared.call.RootCall.{RootCall}
 use Rattle.plasma_tx.specs.declared.call.RootCall.TheVariants.{Deposit, Commit}
-use Rattle.plasma_tx.specs.declared.views.BlockView.TheVariants.{DepositOf, Root}
 use Rattle.plasma_tx.specs.Spelling.{signed_in}
-use Rattle.plasma_tx.specs.Transfer.{may_stand_in, kept_transfer, transfer_in}
-use Rattle.plasma_tx.specs.Views.{blocks, coins, block_at}
+use Rattle.plasma_tx.specs.Transfer.{may_stand_in, transfer_in}
+use Rattle.plasma_tx.specs.Views.{blocks, block_at}
 use Rattle.plasma_tx.proofs.Names.{some_same}
 use Rattle.plasma_tx.proofs.Spellings.{signed_in-ok}
-use Rattle.plasma_tx.specs.Shown.{root_in, root_at}
+use Rattle.plasma_tx.specs.Shown.{root_at}
 use Rattle.coin_history.specs.History.{is_empty}
 use Rattle.coin_history.proofs.HistoryGrow.{block_at-le, root_at-grown}
 use Rattle.operator_rules.specs.Trees.{coin_named, tree_of, commits, is_root_committed}
@@ -40,10 +39,7 @@ empty-from (byte ∷ bytes) is = absurd (true≢false is)
 pub transfer-from_signed : (tag leaf : List ℕ) (c n : ℕ) (tx : SignedTx) → signed_in tag leaf ≡ Ok tx
     → tx.body.coin ≡ c → may_stand_in n tx.body.last ≡ true → transfer_in tag c n leaf ≡ Some tx
 unfolding transfer_in
-transfer-from_signed tag leaf c n tx is coin_is in_time =
-    ap (kept_transfer c n) is
-    ∙ ap (λ (b : Bool). if b then Some tx else None)
-    (and_from (tx.body.coin == c) (may_stand_in n tx.body.last) (eq-eqb tx.body.coin c coin_is) in_time)
+transfer-from_signed tag leaf c n tx is coin_is in_time = grind (arith, common_steps, and_from, eq-eqb) steps 20000
 
 pub coin-named : (tag bytes : List ℕ) (tx : SignedTx) → signed_in tag bytes ≡ Ok tx → tx.body.coin ≡ coin_named bytes
 coin-named tag bytes tx is = ap (λ (t : SignedTx). t.body.coin) (signed_in-ok tag bytes tx is).1
@@ -100,17 +96,8 @@ module _ {X : Type 0} (p : X → Bool) where
 
   pub count-push : (xs : List X) (x : X)
       → length (filter p (xs ++ x ∷ [])) ≡ length (filter p xs) + one_if (p x)
-  count-push [] x = elim (p x) as (λ b. length (if b then x ∷ [] else []) ≡ 0 + one_if b) [
-    | true ↦ refl
-    | false ↦ refl
-  ]
-  count-push (y ∷ ys) x =
-      let rest = count-push ys x in
-      elim (p y) as (λ b. length (if b then y ∷ filter p (ys ++ x ∷ []) else filter p (ys ++ x ∷ []))
-      ≡ length (if b then y ∷ filter p ys else filter p ys) + one_if (p x)) [
-        | true ↦ omega (arith, rest)
-        | false ↦ rest
-      ]
+  count-push [] x = grind (arith, common_steps) steps 20000
+  count-push (y ∷ ys) x = grind (arith, common_steps, count-push ys x) steps 20000
 
 -- ---- trees of roots
 
@@ -142,46 +129,26 @@ module _ (dig : List ℕ → List ℕ) where
 pub blocks-up : (log : List RootCall) (call : RootCall)
     → (blocks log ≤ blocks (call ∷ log)) × (blocks (call ∷ log) ≤ blocks log + 1)
 unfolding blocks
-blocks-up log (Deposit account amount key) = (omega arith, omega arith)
-blocks-up log (Commit account root) = (omega arith, omega arith)
-blocks-up log call = (omega arith, omega arith)
+blocks-up log call = grind (arith, common_steps) steps 20000
 
 pub root_at-le : (log : List RootCall) (n : ℕ) (root : List ℕ) → root_at log n ≡ Some root → n ≤ blocks log
-root_at-le log n root is =
-    (elim (block_at log n) as (λ o. block_at log n ≡ o → option_and_then root_in o ≡ Some root → n ≤ blocks log) [
-      | None ↦ λ none wrong. absurd (cc wrong)
-      | Some block ↦ λ some same. block_at-le log n block some
-    ]) refl is
+root_at-le log n root is = grind (arith, common_steps, block_at-le) steps 20000
 
 pub root_at-none : (log : List RootCall) (n : ℕ) → blocks log < n → root_at log n ≡ None
-root_at-none log n over = by (root_at log n) refl
-  where
-    by : (o : Option (List ℕ)) → root_at log n ≡ o → o ≡ None
-    by None is = refl
-    by (Some root) is = absurd (omega (arith, root_at-le log n root is))
+root_at-none log n over = grind (arith, common_steps, root_at-le) steps 20000
 
 -- a commit makes the next block
 pub root_at-new : (account : ℕ) (root : List ℕ) (log : List RootCall)
     → root_at (Commit account root ∷ log) (suc (blocks log)) ≡ Some root
 unfolding block_at
-root_at-new account root log =
-    ap (λ (b : Bool). option_and_then root_in (if b then Some (Root root) else block_at log (suc (blocks log))))
-    (eq-eqb (suc (blocks log)) (blocks log + 1) (omega arith))
+root_at-new account root log = grind (arith, common_steps, eq-eqb) steps 20000
 
 -- a deposit makes none that is committed
 pub root_at-deposit : (account amount : ℕ) (key : List ℕ) (log : List RootCall) (n : ℕ)
     → root_at (Deposit account amount key ∷ log) n ≡ root_at log n
 unfolding block_at
 root_at-deposit account amount key log n =
-    elim (cases_eq n (blocks log + 1)) [
-      | inl e ↦
-          ap (λ (b : Bool). option_and_then root_in (if b then Some (DepositOf (coins log + 1)) else block_at log n))
-          (eq-eqb n (blocks log + 1) e)
-          ∙ sym (root_at-none log n (omega arith))
-      | inr apart ↦
-          ap (λ (b : Bool). option_and_then root_in (if b then Some (DepositOf (coins log + 1)) else block_at log n))
-          (ne_eqb n (blocks log + 1) apart)
-    ]
+    grind (arith, common_steps, cases_eq, eq-eqb, root_at-none, ne_eqb) steps 20000
 
 -- a committed root is that of a block
 pub committed-block : (log : List RootCall) (root : List ℕ) → is_root_committed log root ≡ true
@@ -192,8 +159,7 @@ committed-block (call ∷ log) root is =
     elim (or_cases (commits root call) (is_root_committed log root) is) [
       | inl here ↦ new call here
       | inr before ↦
-          let m = committed-block log root before in
-          (m.0, root_at-grown log call (suc m.0) m.2 ∙ m.1, omega (arith, m.2, (blocks-up log call).0))
+          grind (arith, common_steps, committed-block log root before, root_at-grown, blocks-up) steps 20000
     ]
   where
     new : (call : RootCall) → commits root call ≡ true
