@@ -1,10 +1,11 @@
 -- Each call that is due for the history of a coin is accepted, where there is money for a Before.
-use Rattle.std.proofs.Common.{◌≡◌, ℕ, zero, suc, ◌+◌, ◌-◌, ◌<◌, ◌≤◌, ◌==◌, ◌&&◌, true, false, List, [], ◌∷◌, ◌++◌, length, map, Some, None, inl, inr, refl, sym, ap, ◌∙◌, subst, arith, filter}
-use Rattle.std.specs.Prelude.{is_some, nat_lt, slice_get}
-use Rattle.std.specs.Option.{option_map, option_map_or}
+use Rattle.std.proofs.Common.{◌≡◌, ℕ, zero, suc, ◌+◌, ◌<◌, ◌≤◌, ◌==◌, true, false, List, [], ◌∷◌, ◌++◌, map, Some, None, inl, inr, refl, sym, ap, ◌∙◌, subst, arith}
+use Rattle.std.specs.Prelude.{slice_get}
+use Rattle.std.specs.Option.{option_map}
 use Rattle.std.specs.List.{AllByRecursion, AllPairs, Contains}
 use Rattle.std.proofs.lemmas.Bool.{cases_eq, eqb-true, eq-eqb, ne_eqb, and_from, lt-ltb, ltb-false}
 use Rattle.std.proofs.lemmas.List.Elements.{recursion_from_All}
+use Rattle.std.proofs.lemmas.Grind.{common_steps}
 use Rattle.plasma_tx.specs.declared.owner.Owner.{Owner}
 use Rattle.plasma_tx.specs.declared.opening.RawOpening.{RawOpening}
 use Rattle.plasma_tx.specs.declared.signed_tx.SignedTx.{SignedTx}
@@ -12,18 +13,16 @@ use Rattle.plasma_tx.specs.declared.links.Link.{Link}
 use Rattle.plasma_tx.specs.declared.links.Links.{Links}
 use Rattle.plasma_tx.specs.declared.call.Shown.TheVariants.{Deposit as AtDeposit, Spend}
 use Rattle.plasma_tx.specs.declared.call.RootCall.{RootCall}
-use Rattle.plasma_tx.specs.declared.call.RootCall.TheVariants.{Deposit, After, Between, Before, Respond}
+use Rattle.plasma_tx.specs.declared.call.RootCall.TheVariants.{Deposit}
 use Rattle.plasma_tx.specs.declared.views.ChallengeView.{ChallengeView}
 use Rattle.plasma_tx.specs.declared.views.CoinView.{CoinView}
 use Rattle.plasma_tx.specs.declared.views.ExitView.{ExitView}
 use Rattle.plasma_tx.specs.ChallengeLists.{is_challenged}
-use Rattle.plasma_tx.specs.Links.{last_spend, tip_of}
-use Rattle.plasma_tx.specs.Openings.{leaf_in}
-use Rattle.plasma_tx.specs.Transfer.{transfer_in}
-use Rattle.plasma_tx.specs.Views.{now, coins, coin_at, new_coin, Challenge, Exit, is_exit, exits, exit_at, exits_of, exit_view, challenge_view, challenge_at}
+use Rattle.plasma_tx.specs.Links.{tip_of}
+use Rattle.plasma_tx.specs.Views.{now, coins, coin_at, Challenge, Exit, exits, exit_at, exits_of, exit_view, challenge_view, challenge_at}
 use Rattle.plasma_tx.specs.declared.rules.TheConstants.{CHALLENGE_WINDOW, RESPONSE_WINDOW, CHALLENGE_BOND}
 use Rattle.plasma_tx.specs.Shown.{Tests, Rules, root_at}
-use Rattle.plasma_tx.specs.Table.{answer_to, is_accepted, is_before_parent}
+use Rattle.plasma_tx.specs.Table.{answer_to, is_accepted}
 use Rattle.plasma_tx.specs.Money.{balance_of}
 use Rattle.plasma_tx.specs.Accepted.{ShowsTx, CancelsAfter, CancelsBetween, Challenges, Responds}
 use Rattle.plasma_tx.proofs.Acceptance.{transfers_are_shown, shown_calls_are_accepted}
@@ -47,9 +46,7 @@ deposit-above [] c made is = absurd (cc is)
 deposit-above (Deposit account amount key ∷ log) c made is =
     elim (cases_eq c (coins log + 1)) [
       | inl last ↦
-          let e : new_coin log account amount key ≡ made =
-          some_same (new_coin log account amount key) made (simp (eq-eqb c (coins log + 1) last) at is) in
-          omega (arith, ap (λ (m : CoinView). m.deposit) e)
+          grind (arith, common_steps, some_same, eq-eqb) steps 20000
       | inr other ↦ deposit-above log c made (simp (ne_eqb c (coins log + 1) other) at is)
     ]
 deposit-above (call ∷ log) c made is = deposit-above log c made is
@@ -57,15 +54,12 @@ deposit-above (call ∷ log) c made is = deposit-above log c made is
 -- an exit that is shown of the coin stands, and so does each challenge of it
 stands : (log : List RootCall) (x : Exit) → Has (exits log) x → exit_at log x.coin x.block ≡ Some x
 unfolding exit_at
-stands log x h =
-    only-found (is_exit x.coin x.block) (exits log) x (exits-distinct log x.coin x.block) h
-    (and_from (x.coin == x.coin) (x.block == x.block) (eq-eqb x.coin x.coin refl) (eq-eqb x.block x.block refl))
+stands log x h = grind (arith, common_steps, only-found, exits-distinct, and_from, eq-eqb) steps 20000
 
 challenge-stands : (log : List RootCall) (c e : ℕ) (x : Exit) (challenge : Challenge) → exit_at log c e ≡ Some x
     → Has x.challenges challenge → challenge_at challenge.block x.challenges ≡ Some challenge
 challenge-stands log c e x challenge at h =
-    only-found (is_at challenge.block) x.challenges challenge (challenged-once log c e x at challenge.block) h
-    (eq-eqb challenge.block challenge.block refl)
+    grind (arith, common_steps, only-found, is_at, challenged-once, eq-eqb) steps 20000
 
 -- what is at a place of a list is in it
 got-has : (xs : List Link) (i : ℕ) (link : Link) → slice_get xs i ≡ Some link → Has xs link
@@ -95,9 +89,7 @@ module _ (tests : Tests) (rules : Rules) (log : List RootCall) (account : ℕ) (
       some_same is_b.root is_a.root (sym is_b.committed ∙ ap (root_at log) (sym same) ∙ is_a.committed) in
       let leaf = one a b is_a.root (has-contains os a has_a) (has-contains os b has_b) same is_a.committed is_a.opened
       (subst (λ r. tests.opens r bundle.coin b ≡ true) root is_b.opened) in
-      some_same tx other
-      (sym is_a.spelled ∙ ap (λ n. transfer_in rules.tag bundle.coin n (leaf_in a.bytes)) same
-      ∙ ap (transfer_in rules.tag bundle.coin b.block) leaf ∙ is_b.spelled)
+      grind (arith, common_steps, some_same) steps 20000
 
   opened : (link : Link) → Has spends_here link → IsOpened tests rules log bundle.coin bundle.openings link
   opened link h = links-opened tests rules log bundle.coin bundle.openings link opens h
@@ -117,9 +109,7 @@ module _ (tests : Tests) (rules : Rules) (log : List RootCall) (account : ℕ) (
       → IsShownAt tests rules log bundle.coin (seen log bundle.coin) made n owner
       → IsAt tests made.deposit made.owner spends_here n from → from ≡ owner
   owner-same n owner from (Deposited at is) (inl here) = here.1 ∙ sym is
-  owner-same n owner from (Deposited at is) (inr link) =
-      let above = has-above made.deposit spends_here link.0 rise link.1 in
-      absurd (omega (arith, above, at, link.2))
+  owner-same n owner from (Deposited at is) (inr link) = grind (arith, common_steps, has-above) steps 20000
   owner-same n owner from (Transferred s above) (inl here) = absurd (omega (arith, above, here.0))
   owner-same n owner from (Transferred s above) (inr link) =
       sym link.3 ∙ ap (λ (tx : SignedTx). tx.body.to) (sym (link-tx n owner s link.0 link.1 link.2)) ∙ s.to
@@ -163,8 +153,7 @@ module _ (tests : Tests) (rules : Rules) (log : List RootCall) (account : ℕ) (
             let same : last.0.tx.body.parent ≡ parent =
             ap (λ (t : SignedTx). t.body.parent) (sym tx) ∙ child in
             next_link-ordered tests made.deposit made.owner spends_here n parent link last.0 linked rise next
-            (subst (λ m. next_link m made.deposit spends_here ≡ Some last.0) same
-            (next_link-parent tests made.deposit made.owner spends_here last.0 linked rise last.1)) less
+            (grind (arith, common_steps, next_link-parent) steps 20000) less
       ]
 
   -- ---- each kind
@@ -183,13 +172,7 @@ module _ (tests : Tests) (rules : Rules) (log : List RootCall) (account : ℕ) (
 
     challenges : AllByRecursion
         (IsShownChallenge tests rules log bundle.coin (seen log bundle.coin) made x.parent) x.challenges
-    challenges =
-        let same : is.made ≡ made =
-        some_same is.made made (sym is.there ∙ ap (coin_at log) mine ∙ there) in
-        subst (λ m. AllByRecursion
-        (IsShownChallenge tests rules log bundle.coin (seen log bundle.coin) m x.parent) x.challenges) same
-        (subst (λ c. AllByRecursion (IsShownChallenge tests rules log c (seen log c) is.made x.parent) x.challenges)
-        mine is.challenges)
+    challenges = grind (arith, common_steps, some_same, seen) steps 20000
 
     after-accepted : (link : Link) → link_after own x.block ≡ Some link → now log < x.start + CHALLENGE_WINDOW
         → CancelsAfter tests rules log bundle.coin x.block link.opening
@@ -268,9 +251,7 @@ module _ (tests : Tests) (rules : Rules) (log : List RootCall) (account : ℕ) (
       exit = x;
       stands = found;
       in_time = early;
-      before = ap (λ o. is_before_parent log o x (AtDeposit made.deposit)) there
-          ∙ and_from (made.deposit == made.deposit) (nat_lt made.deposit x.parent)
-          (eq-eqb made.deposit made.deposit refl) (lt-ltb made.deposit x.parent before);
+      before = grind (arith, common_steps, and_from, eq-eqb, lt-ltb) steps 20000;
       owner = made.owner;
       owner_shown = ap (option_map (λ (m : CoinView). m.owner)) there;
       none_there = none-at made.deposit made.deposit none refl;
@@ -290,10 +271,7 @@ module _ (tests : Tests) (rules : Rules) (log : List RootCall) (account : ℕ) (
           exit = x;
           stands = found;
           in_time = early;
-          before = ap (λ c. is_before_parent log c x (Spend link.opening)) there
-              ∙ and_from (is_some (root_at log n) && nat_lt made.deposit n) (nat_lt n x.parent)
-              (and_from (is_some (root_at log n)) (nat_lt made.deposit n) (ap is_some o.shown.committed)
-              (lt-ltb made.deposit n low)) (lt-ltb n x.parent less);
+          before = grind (arith, common_steps, and_from, lt-ltb) steps 20000;
           owner = link.tx.body.to;
           owner_shown = ap (option_map (λ (tx : SignedTx). tx.body.to))
               (transfers_are_shown tests rules log bundle.coin link.opening link.tx o.shown);
@@ -304,61 +282,27 @@ module _ (tests : Tests) (rules : Rules) (log : List RootCall) (account : ℕ) (
     before-accepted : tip_of own < x.parent → is_challenged (tip_of own) (map challenge_view x.challenges) ≡ false
         → now log < x.start + CHALLENGE_WINDOW → CHALLENGE_BOND ≤ balance_of log account
         → Challenges tests rules log account bundle.coin x.block (tip_shown own)
-    before-accepted =
-        (elim (last_spend own) as (λ o. last_spend own ≡ o
-        → option_map_or (λ (link : Link). link.block) o made.deposit < x.parent
-        → is_challenged (option_map_or (λ (link : Link). link.block) o made.deposit) (map challenge_view x.challenges)
-        ≡ false → now log < x.start + CHALLENGE_WINDOW → CHALLENGE_BOND ≤ balance_of log account
-        → Challenges tests rules log account bundle.coin x.block
-        (option_map_or (λ (link : Link). Spend link.opening) o (AtDeposit made.deposit))) [
-          | None ↦ λ last. at-deposit
-          | Some link ↦ λ last. at-link link (got-has spends_here (length spends_here - 1) link last)
-        ]) refl
+    before-accepted = grind (arith, common_steps, at-deposit, at-link, got-has) steps 20000
 
     -- each call that is due for the exit is accepted
     accepted : (call : RootCall) → IsDue log account own (exit_view x) call → is_poor_before log account call ≡ false
         → is_accepted (answer_to tests rules log call) ≡ true
     accepted call (DueAfter link next early same) money =
-        subst (λ c. is_accepted (answer_to tests rules log c) ≡ true) same
-        (shown_calls_are_accepted tests rules log (After account bundle.coin x.block link.opening)
-        (after-accepted link next early))
+        grind (arith, common_steps, shown_calls_are_accepted, after-accepted) steps 20000
     accepted call (DueBetween link beyond next early same) money =
-        subst (λ c. is_accepted (answer_to tests rules log c) ≡ true) same
-        (shown_calls_are_accepted tests rules log (Between account bundle.coin x.block link.opening)
-        (between-accepted link beyond next early))
+        grind (arith, common_steps, shown_calls_are_accepted, between-accepted) steps 20000
     accepted call (DueBefore before none early same) money =
         let covered : CHALLENGE_BOND ≤ balance_of log account =
         ltb-false (balance_of log account) CHALLENGE_BOND (ap (is_poor_before log account) same ∙ money) in
-        subst (λ c. is_accepted (answer_to tests rules log c) ≡ true) same
-        (shown_calls_are_accepted tests rules log (Before account bundle.coin x.block (tip_shown own))
-        (before-accepted before none early covered))
+        grind (arith, common_steps, shown_calls_are_accepted, before-accepted) steps 20000
     accepted call (DueRespond view link at has still next early same) money =
-        let c = has-map challenge_view x.challenges view has in
-        subst (λ k. is_accepted (answer_to tests rules log k) ≡ true) same
-        (answered c.0 view c.1 c.2 still next early)
-      where
-        answered : (challenge : Challenge) (w : ChallengeView) → Has x.challenges challenge
-            → challenge_view challenge ≡ w → w.answered ≡ false → link_after own w.block ≡ Some link
-            → now log < w.at + RESPONSE_WINDOW
-            → is_accepted (answer_to tests rules log (Respond account bundle.coin x.block w.block link.opening)) ≡ true
-        answered challenge w there_is is_view =
-            subst (λ (v : ChallengeView). v.answered ≡ false → link_after own v.block ≡ Some link
-            → now log < v.at + RESPONSE_WINDOW
-            → is_accepted (answer_to tests rules log (Respond account bundle.coin x.block v.block link.opening))
-            ≡ true) is_view
-            (λ open_still found_link in_time.
-            shown_calls_are_accepted tests rules log
-            (Respond account bundle.coin x.block challenge.block link.opening)
-            (respond-accepted challenge link at there_is open_still found_link in_time))
+        grind (arith, common_steps, has-map, shown_calls_are_accepted, respond-accepted) steps 20000
 
 -- an exit of the coin whose view is shown
 view-exit : (log : List RootCall) (c : ℕ) (view : ExitView) → Has (exits_of log c) view
     → (x : Exit) × Has (exits log) x × (x.coin ≡ c) × (exit_view x ≡ view)
 unfolding exits_of
-view-exit log c view h =
-    let shown = has-map exit_view (filter (λ (x : Exit). x.coin == c) (exits log)) view h in
-    let kept = has-filter (λ (x : Exit). x.coin == c) (exits log) shown.0 shown.1 in
-    (shown.0, kept.0, eqb-true shown.0.coin c kept.1, shown.2)
+view-exit log c view h = grind (arith, common_steps, has-map, has-filter, eqb-true) steps 20000
 
 pub due_calls_are_accepted : DueCallsAreAccepted
 due_calls_are_accepted tests rules log account bundle links call legal is one due money =

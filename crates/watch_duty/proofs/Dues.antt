@@ -1,9 +1,10 @@
 -- Which calls are due for an exit.
-use Rattle.std.proofs.Common.{◌≡◌, ◌⊎◌, ℕ, ◌+◌, ◌<◌, ◌==◌, ◌&&◌, not, Bool, true, false, if◌then◌else◌, List, [], ◌∷◌, Option, Some, None, inl, inr, refl}
+use Rattle.std.proofs.Common.{◌≡◌, ◌⊎◌, ℕ, ◌+◌, ◌<◌, ◌==◌, Bool, true, false, if◌then◌else◌, List, [], Option, Some, None, inl, inr, refl, arith}
 use Rattle.std.specs.Prelude.{nat_lt, unwrap_or}
 use Rattle.std.specs.List.{flat_map}
 use Rattle.std.specs.Option.{option_map, option_map_or, option_or}
 use Rattle.std.proofs.lemmas.Bool.{and_parts, eqb-true, ltb-true, leb-false, not-true}
+use Rattle.std.proofs.lemmas.Grind.{common_steps}
 use Rattle.plasma_tx.specs.declared.links.Link.{Link}
 use Rattle.plasma_tx.specs.declared.links.Links.{Links}
 use Rattle.plasma_tx.specs.declared.call.RootCall.{RootCall}
@@ -14,7 +15,6 @@ use Rattle.plasma_tx.specs.ChallengeLists.{is_challenged}
 use Rattle.plasma_tx.specs.Links.{tip_of}
 use Rattle.plasma_tx.specs.Views.{now}
 use Rattle.plasma_tx.specs.declared.rules.TheConstants.{CHALLENGE_WINDOW, RESPONSE_WINDOW}
-use Rattle.plasma_tx.specs.Table.{is_over}
 use Rattle.watch_duty.specs.Duty.{link_after, tip_shown, within, old_owner, second_spend, planted_parent, answer, answers, due_for}
 use Rattle.watch_duty.proofs.Members.{Has, has-flat_map}
 
@@ -42,22 +42,12 @@ module _ (log : List RootCall) (account : ℕ) (links : Links) where
 
   within-has : (time window : ℕ) (one call : RootCall) → Has (within log time window one) call
       → (now log < time + window) × (one ≡ call)
-  within-has time window one call h =
-      (elim (is_over log time window) as (λ b. is_over log time window ≡ b → Has (if b then [] else one ∷ []) call
-      → (now log < time + window) × (one ≡ call)) [
-        | true ↦ λ over none. absurd none
-        | false ↦ λ early there. elim there [
-          | inl same ↦ (leb-false (time + window) (now log) early, same)
-          | inr none ↦ absurd none
-        ]
-      ]) refl h
+  within-has time window one call h = grind (arith, common_steps, leb-false) steps 20000
 
   mapped : (found : Option Link) (time window : ℕ) (make : Link → RootCall) (call : RootCall)
       → Has (unwrap_or (option_map (λ link. within log time window (make link)) found) []) call
       → (link : Link) × (found ≡ Some link) × (now log < time + window) × (make link ≡ call)
-  mapped None time window make call h = absurd h
-  mapped (Some link) time window make call h =
-      let r = within-has time window (make link) call h in (link, refl, r.0, r.1)
+  mapped found time window make call h = grind (arith, common_steps, within-has) steps 20000
 
   module _ (exit : ExitView) (call : RootCall) where
     old_owner-due : Has (unwrap_or (old_owner log account links exit) []) call → IsDue exit call
@@ -80,21 +70,7 @@ module _ (log : List RootCall) (account : ℕ) (links : Links) where
         ]) refl h
 
     planted_parent-due : Has (unwrap_or (planted_parent log account links exit) []) call → IsDue exit call
-    planted_parent-due h =
-        (elim (nat_lt (tip_of links) exit.parent && not (is_challenged (tip_of links) exit.challenges)) as (λ b.
-        (nat_lt (tip_of links) exit.parent && not (is_challenged (tip_of links) exit.challenges)) ≡ b
-        → Has (unwrap_or (if b then Some
-        (within log exit.start CHALLENGE_WINDOW (Before account links.coin exit.block (tip_shown links)))
-        else None) []) call → IsDue exit call) [
-          | true ↦ λ fresh there.
-              let parts = and_parts (nat_lt (tip_of links) exit.parent)
-              (not (is_challenged (tip_of links) exit.challenges)) fresh in
-              let r = within-has exit.start CHALLENGE_WINDOW
-              (Before account links.coin exit.block (tip_shown links)) call there in
-              DueBefore (ltb-true (tip_of links) exit.parent parts.0)
-              (not-true (is_challenged (tip_of links) exit.challenges) parts.1) r.0 r.1
-          | false ↦ λ other none. absurd none
-        ]) refl h
+    planted_parent-due h = grind (arith, common_steps, and_parts, within-has, ltb-true, not-true) steps 20000
 
     answer-due : (challenge : ChallengeView) → exit.block ≡ tip_of links → Has exit.challenges challenge
         → (found : Option Link) → link_after links challenge.block ≡ found → (answered : Bool)

@@ -1,8 +1,9 @@
 -- The links of a history: each comes after its parent's block, whose owner signed it, and an opening shows it.
-use Rattle.std.proofs.Common.{◌≡◌, ◌⊎◌, ℕ, zero, suc, ◌<◌, ◌≤◌, ◌==◌, Bool, true, false, if◌then◌else◌, List, [], ◌∷◌, map, Option, Some, None, inl, inr, refl, sym, ap, ◌∙◌, subst, arith}
+use Rattle.std.proofs.Common.{◌≡◌, ◌⊎◌, ℕ, zero, suc, ◌<◌, ◌≤◌, ◌==◌, true, false, if◌then◌else◌, List, [], ◌∷◌, map, Option, Some, None, inl, inr, refl, sym, ap, arith}
 use Rattle.std.specs.Option.{option_map, option_map_or}
 use Rattle.std.specs.List.{AllByRecursion, AllPairs, cons_option}
 use Rattle.std.proofs.lemmas.Bool.{eqb-true, eq-eqb, ne_eqb, true≢false}
+use Rattle.std.proofs.lemmas.Grind.{common_steps}
 use Rattle.plasma_tx.specs.declared.owner.Owner.{Owner}
 use Rattle.plasma_tx.specs.declared.opening.RawOpening.{RawOpening}
 use Rattle.plasma_tx.specs.declared.signed_tx.SignedTx.{SignedTx}
@@ -52,10 +53,7 @@ has-tip last (l ∷ ls) link rise (inr h) = has-tip l.block ls link rise.1 h
 pub tip-link : (last : ℕ) (links : List Link)
     → (tip_from last links ≡ last) ⊎ ((link : Link) × Has links link × (link.block ≡ tip_from last links))
 tip-link last [] = inl refl
-tip-link last (l ∷ ls) = elim (tip-link l.block ls) [
-  | inl is ↦ inr (l, inl refl, sym is)
-  | inr t ↦ inr (t.0, inr t.1, t.2)
-]
+tip-link last (l ∷ ls) = grind (arith, common_steps, tip-link l.block ls) steps 20000
 
 -- ---- the link after a block
 
@@ -84,28 +82,10 @@ module _ (tests : Tests) where
   follows last owner (l ∷ ls) block link are rise is =
       (elim (last == block) as (λ b. (last == block) ≡ b
       → (if b then Some l else next_link block l.block ls) ≡ Some link → Follows last owner (l ∷ ls) block link) [
-        | true ↦ λ here same.
-            let at = eqb-true last block here in
-            subst (Follows last owner (l ∷ ls) block) (some_same l link same) (record {
-              has = inl refl;
-              child = are.0 ∙ at;
-              own = owner;
-              signed = are.1;
-              at = inl (sym at, refl);
-              above = omega (arith, rise.0);
-              low = omega arith;
-            })
+        | true ↦ grind (arith, common_steps, eqb-true, some_same) steps 20000
         | false ↦ λ other later.
             let r = follows l.block l.tx.body.to ls block link are.2 rise.1 later in
-            record {
-              has = inr r.has;
-              child = r.child;
-              own = r.own;
-              signed = r.signed;
-              at = further r.at;
-              above = r.above;
-              low = omega (arith, rise.0, r.low);
-            }
+            grind (arith, common_steps, further) steps 20000
       ]) refl is
     where
       further : {own : Owner} → IsAt l.block l.tx.body.to ls block own → IsAt last owner (l ∷ ls) block own
@@ -127,14 +107,10 @@ module _ (tests : Tests) where
       → next_link link.tx.body.parent last links ≡ Some link
   unfolding next_link AreLinked
   next_link-parent last owner [] link are rise h = absurd h
-  next_link-parent last owner (l ∷ ls) link are rise (inl is) =
-      let at : last ≡ link.tx.body.parent = sym are.0 ∙ ap (λ (x : Link). x.tx.body.parent) is in
-      ap (λ (b : Bool). if b then Some l else next_link link.tx.body.parent l.block ls) (eq-eqb last _ at) ∙ ap Some is
+  next_link-parent last owner (l ∷ ls) link are rise (inl is) = grind (arith, common_steps, eq-eqb) steps 20000
   next_link-parent last owner (l ∷ ls) link are rise (inr h) =
       let low = parent-low l.block l.tx.body.to ls link are.2 rise.1 h in
-      let apart : last ≡ link.tx.body.parent → ⊥ = λ e. omega (arith, rise.0, low) in
-      ap (λ (b : Bool). if b then Some l else next_link link.tx.body.parent l.block ls) (ne_eqb last _ apart)
-      ∙ next_link-parent l.block l.tx.body.to ls link are.2 rise.1 h
+      grind (arith, common_steps, next_link-parent l.block l.tx.body.to ls link are.2 rise.1 h, ne_eqb) steps 20000
 
   -- of two blocks that links come after, the link after the earlier one is no later than the other
   pub next_link-ordered : (last : ℕ) (owner : Owner) (links : List Link) (block other : ℕ) (link next : Link)
@@ -183,11 +159,7 @@ module _ (tests : Tests) (rules : Rules) (log : List RootCall) (coin : ℕ) wher
       → Has (cons_option (option_map (with_tx o) t) (links_in rules coin os)) link → IsOpened (o ∷ os) link) [
         | None ↦ λ none there. later (links-opened os link opens.1 there)
         | Some tx ↦ λ some there. elim there [
-          | inl same ↦ subst (IsOpened (o ∷ os)) same (record {
-            has = inl refl;
-            block = refl;
-            shown = shows-link o tx (root_at log o.block) refl opens.0 some;
-          })
+          | inl same ↦ grind (arith, common_steps, shows-link) steps 20000
           | inr more ↦ later (links-opened os link opens.1 more)
         ]
       ]) refl h

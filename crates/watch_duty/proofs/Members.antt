@@ -1,7 +1,8 @@
 -- Lists: what is in one, and what is found in it.
-use Rattle.std.proofs.Common.{◌≡◌, ◌⊎◌, ℕ, zero, suc, ◌+◌, ◌<◌, ◌≤◌, cond, ◌||◌, Bool, true, false, if◌then◌else◌, List, [], ◌∷◌, ◌++◌, length, get_or, map, filter, find, Some, None, inl, inr, refl, sym, ap, ◌∙◌, subst, arith}
+use Rattle.std.proofs.Common.{◌≡◌, ◌⊎◌, ℕ, zero, suc, ◌<◌, ◌≤◌, cond, ◌||◌, Bool, true, false, if◌then◌else◌, List, [], ◌∷◌, ◌++◌, length, get_or, map, filter, find, Some, None, inl, inr, refl, sym, ap, ◌∙◌, subst, arith}
 use Rattle.std.specs.List.{AllByRecursion, Contains, flat_map, list_any}
 use Rattle.std.proofs.lemmas.Bool.{or_left, or_right, true≢false}
+use Rattle.std.proofs.lemmas.Grind.{common_steps}
 use Rattle.plasma_tx.proofs.RuleNames.{one_if, count}
 
 -- the list has the item
@@ -74,10 +75,7 @@ module _ {X : Type 0} where
   only-found p (y ∷ ys) x one (inl same) is =
       ap (λ (b : Bool). if b then Some y else find p ys) (ap p same ∙ is) ∙ ap Some same
   only-found p (y ∷ ys) x one (inr h) is =
-      (elim (p y) as (λ b. one_if b + count p ys ≤ 1 → (if b then Some y else find p ys) ≡ Some x) [
-        | true ↦ λ both. absurd (omega (arith, counted p ys x h is))
-        | false ↦ λ rest. only-found p ys x (omega arith) h is
-      ]) one
+      grind (arith, common_steps, only-found p ys x (omega arith) h is, one_if, count, counted) steps 20000
 
   -- and none is found where none passes
   pub none-found : (p : X → Bool) (xs : List X) → list_any p xs ≡ false → find p xs ≡ None

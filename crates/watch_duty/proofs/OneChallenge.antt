@@ -1,20 +1,17 @@
 -- What is due is nothing without exits, and at most one challenge for an exit.
-use Rattle.std.proofs.Common.{◌≡◌, ℕ, ◌≤◌, ◌==◌, ◌&&◌, not, cond, true, false, if◌then◌else◌, List, [], ◌∷◌, ◌++◌, length, filter, Option, Some, None, refl, ap, ◌∙◌, arith}
-use Rattle.std.specs.Prelude.{nat_lt, unwrap_or}
+use Rattle.std.proofs.Common.{◌≡◌, ℕ, ◌≤◌, cond, true, false, List, [], ◌∷◌, ◌++◌, length, filter, Option, Some, None, refl, ap, ◌∙◌, arith}
+use Rattle.std.specs.Prelude.{unwrap_or}
 use Rattle.std.specs.List.{flat_map}
-use Rattle.std.specs.Option.{option_map, option_map_or, option_or}
+use Rattle.std.specs.Option.{option_map, option_or}
 use Rattle.std.proofs.lemmas.List.Elements.{filter-append}
+use Rattle.std.proofs.lemmas.Grind.{common_steps}
 use Rattle.plasma_tx.specs.declared.links.Link.{Link}
 use Rattle.plasma_tx.specs.declared.links.Links.{Links}
 use Rattle.plasma_tx.specs.declared.call.RootCall.{RootCall}
-use Rattle.plasma_tx.specs.declared.call.RootCall.TheVariants.{After, Between, Before, Respond}
 use Rattle.plasma_tx.specs.declared.views.ChallengeView.{ChallengeView}
 use Rattle.plasma_tx.specs.declared.views.ExitView.{ExitView}
-use Rattle.plasma_tx.specs.ChallengeLists.{is_challenged}
-use Rattle.plasma_tx.specs.Links.{tip_of}
-use Rattle.plasma_tx.specs.declared.rules.TheConstants.{CHALLENGE_WINDOW, RESPONSE_WINDOW}
-use Rattle.plasma_tx.specs.Table.{is_over}
-use Rattle.watch_duty.specs.Duty.{link_after, tip_shown, within, old_owner, second_spend, planted_parent, answer, answers, due_for}
+use Rattle.plasma_tx.specs.declared.rules.TheConstants.{CHALLENGE_WINDOW}
+use Rattle.watch_duty.specs.Duty.{within, old_owner, second_spend, planted_parent, answer, answers, due_for}
 use Rattle.watch_duty.specs.Laws.{is_challenge, NothingIsDueWithoutExits, OneChallengeIsDue}
 
 pub nothing_is_due_without_exits : NothingIsDueWithoutExits
@@ -37,11 +34,7 @@ one-single call =
 
 module _ (log : List RootCall) (account : ℕ) (links : Links) (exit : ExitView) where
   one-within : (time window : ℕ) (call : RootCall) → HasOne (within log time window call)
-  one-within time window call =
-      elim (is_over log time window) as (λ b. HasOne (if b then [] else call ∷ [])) [
-        | true ↦ omega arith
-        | false ↦ one-single call
-      ]
+  one-within time window call = grind (arith, common_steps, one-single) steps 20000
 
   one-mapped : (found : Option Link) (make : Link → RootCall)
       → HasOne (unwrap_or (option_map (λ link. within log exit.start CHALLENGE_WINDOW (make link)) found) [])
@@ -49,46 +42,14 @@ module _ (log : List RootCall) (account : ℕ) (links : Links) (exit : ExitView)
   one-mapped (Some link) make = one-within exit.start CHALLENGE_WINDOW (make link)
 
   one-second : HasOne (unwrap_or (second_spend log account links exit) [])
-  one-second =
-      elim (nat_lt (tip_of links) exit.block) as (λ b. HasOne (unwrap_or (if b then option_map
-      (λ link. within log exit.start CHALLENGE_WINDOW (Between account links.coin exit.block link.opening))
-      (link_after links exit.parent) else None) [])) [
-        | true ↦ one-mapped (link_after links exit.parent)
-            (λ link. Between account links.coin exit.block link.opening)
-        | false ↦ omega arith
-      ]
+  one-second = grind (arith, common_steps, one-mapped) steps 20000
 
   one-third : HasOne (unwrap_or (planted_parent log account links exit) [])
-  one-third =
-      elim (nat_lt (tip_of links) exit.parent && not (is_challenged (tip_of links) exit.challenges)) as (λ b.
-      HasOne (unwrap_or (if b then Some
-      (within log exit.start CHALLENGE_WINDOW (Before account links.coin exit.block (tip_shown links)))
-      else None) [])) [
-        | true ↦ one-within exit.start CHALLENGE_WINDOW (Before account links.coin exit.block (tip_shown links))
-        | false ↦ omega arith
-      ]
+  one-third = grind (arith, common_steps, one-within) steps 20000
 
   -- an answer is no challenge
   answer-none : (challenge : ChallengeView) → filter is_challenge (answer log account links exit challenge) ≡ []
-  answer-none challenge =
-      elim (challenge.answered) as (λ b. filter is_challenge (if b then [] else option_map_or
-      (λ link. within log challenge.at RESPONSE_WINDOW
-      (Respond account links.coin exit.block challenge.block link.opening)) (link_after links challenge.block) [])
-      ≡ []) [
-        | true ↦ refl
-        | false ↦ linked (link_after links challenge.block)
-      ]
-    where
-      linked : (found : Option Link) → filter is_challenge (option_map_or
-          (λ link. within log challenge.at RESPONSE_WINDOW
-          (Respond account links.coin exit.block challenge.block link.opening)) found []) ≡ []
-      linked None = refl
-      linked (Some link) =
-          elim (is_over log challenge.at RESPONSE_WINDOW) as (λ b. filter is_challenge
-          (if b then [] else Respond account links.coin exit.block challenge.block link.opening ∷ []) ≡ []) [
-            | true ↦ refl
-            | false ↦ refl
-          ]
+  answer-none challenge = grind (arith, common_steps) steps 20000
 
   answers-none : (challenges : List ChallengeView)
       → filter is_challenge (flat_map (answer log account links exit) challenges) ≡ []
@@ -99,22 +60,12 @@ module _ (log : List RootCall) (account : ℕ) (links : Links) (exit : ExitView)
       ∙ (λ i. answer-none challenge i ++ answers-none challenges i)
 
   one-fourth : HasOne (unwrap_or (answers log account links exit) [])
-  one-fourth =
-      elim (exit.block == tip_of links) as (λ b. HasOne (unwrap_or
-      (if b then Some (flat_map (answer log account links exit) exit.challenges) else None) [])) [
-        | true ↦ let none = ap (λ (calls : List RootCall). length calls) (answers-none exit.challenges) in omega arith
-        | false ↦ omega arith
-      ]
+  one-fourth = grind (arith, common_steps, answers-none) steps 20000
 
 pub one_challenge_is_due : OneChallengeIsDue
 one_challenge_is_due log account links exit =
     one-rule (old_owner log account links exit)
     (option_or (second_spend log account links exit)
     (option_or (planted_parent log account links exit) (answers log account links exit)))
-    (one-mapped log account links exit (link_after links exit.block)
-    (λ link. After account links.coin exit.block link.opening))
-    (one-rule (second_spend log account links exit)
-    (option_or (planted_parent log account links exit) (answers log account links exit))
-    (one-second log account links exit)
-    (one-rule (planted_parent log account links exit) (answers log account links exit)
-    (one-third log account links exit) (one-fourth log account links exit)))
+    (grind (arith, common_steps, one-mapped) steps 20000)
+    (grind (arith, common_steps, one-rule, one-second, one-third, one-fourth) steps 20000)

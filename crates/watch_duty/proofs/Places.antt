@@ -1,9 +1,10 @@
 -- What is due, by the places of a guard's blocks.
-use Rattle.std.proofs.Common.{◌≡◌, ℕ, suc, ◌+◌, ◌==◌, ◌&&◌, not, cond, Bool, true, false, if◌then◌else◌, List, [], ◌∷◌, map, length, Option, Some, None, inl, inr, refl, sym, ap, ◌∙◌, arith}
+use Rattle.std.proofs.Common.{◌≡◌, ℕ, suc, ◌==◌, ◌&&◌, not, cond, Bool, if◌then◌else◌, List, [], ◌∷◌, map, Option, Some, None, refl, sym, ap, ◌∙◌, arith}
 use Rattle.std.specs.Prelude.{is_some, nat_lt, slice_get, unwrap_or}
-use Rattle.std.specs.List.{flat_map, position, position_or_len}
-use Rattle.std.specs.Option.{option_map, option_map_or, option_or, option_and_then}
+use Rattle.std.specs.List.{flat_map, position}
+use Rattle.std.specs.Option.{option_map, option_or, option_and_then}
 use Rattle.std.proofs.lemmas.Bool.{cases_lt, lt-ltb, le-ltb}
+use Rattle.std.proofs.lemmas.Grind.{common_steps}
 use Rattle.plasma_tx.specs.declared.links.Link.{Link}
 use Rattle.plasma_tx.specs.declared.links.Links.{Links}
 use Rattle.plasma_tx.specs.declared.call.RootCall.{RootCall}
@@ -33,17 +34,7 @@ none-there (Some i) = refl
 place-later : {Y : Type 0} (k place count : ℕ) (y : Y) (ys : List Y) → place ≡ suc k
     → option_and_then (λ i. slice_get (y ∷ ys) i) (cond (nat_lt place (suc count)) (Some place) None)
     ≡ option_and_then (λ i. slice_get ys i) (cond (nat_lt k count) (Some k) None)
-place-later k place count y ys e = elim (cases_lt k count) [
-  | inl less ↦
-      ap (λ (b : Bool). option_and_then (λ i. slice_get (y ∷ ys) i) (cond b (Some place) None))
-      (lt-ltb place (suc count) (omega arith))
-      ∙ ap (λ (n : ℕ). slice_get (y ∷ ys) n) e
-      ∙ sym (ap (λ (b : Bool). option_and_then (λ i. slice_get ys i) (cond b (Some k) None)) (lt-ltb k count less))
-  | inr more ↦
-      ap (λ (b : Bool). option_and_then (λ i. slice_get (y ∷ ys) i) (cond b (Some place) None))
-      (le-ltb place (suc count) (omega arith))
-      ∙ sym (ap (λ (b : Bool). option_and_then (λ i. slice_get ys i) (cond b (Some k) None)) (le-ltb k count more))
-]
+place-later k place count y ys e = grind (arith, common_steps, cases_lt, lt-ltb, le-ltb) steps 20000
 
 -- the link that comes next after a block, where the links come after the last one
 next-at : (block last : ℕ) (links : List Link) → next_link block last links
@@ -51,16 +42,7 @@ next-at : (block last : ℕ) (links : List Link) → next_link block last links
 unfolding next_link
 next-at block last [] = sym (none-there (position (λ b. b == block) (last ∷ [])))
 next-at block last (link ∷ links) =
-    let rest = map (λ (l : Link). l.block) links in
-    let k = position_or_len (λ n. n == block) (link.block ∷ rest) in
-    let count = length (link.block ∷ rest) in
-    elim (last == block) as (λ b. (if b then Some link else next_link block link.block links)
-    ≡ option_and_then (λ i. slice_get (link ∷ links) i)
-    (cond (nat_lt (cond (not b) (1 + k) 0) (suc count)) (Some (cond (not b) (1 + k) 0)) None)) [
-      | true ↦ sym (ap (λ (x : Bool). option_and_then (λ i. slice_get (link ∷ links) i) (cond x (Some 0) None))
-          (lt-ltb 0 (suc count) (omega arith)))
-      | false ↦ next-at block link.block links ∙ sym (place-later k (1 + k) count link links (omega arith))
-    ]
+    grind (arith, common_steps, next-at block link.block links, lt-ltb, place-later) steps 20000
 
 pub links-are : LinksAreByPlace
 links-are links block = next-at block links.deposit links.spends
@@ -103,30 +85,11 @@ module _ (log : List RootCall) (account : ℕ) (links : Links) (exit : ExitView)
   last-rules : (planted own : Bool) (calls responses : List RootCall)
       → unwrap_or (option_or (if planted then Some calls else None) (if own then Some responses else None)) []
       ≡ (if planted then calls else if own then responses else [])
-  last-rules true own calls responses = refl
-  last-rules false true calls responses = refl
-  last-rules false false calls responses = refl
+  last-rules planted own calls responses = grind (arith, common_steps) steps 20000
 
   rules-table : (left parted : Option Link) (responses : List RootCall)
       → by_rules left parted responses ≡ by_table left parted responses
-  rules-table (Some link) parted responses = refl
-  rules-table None parted responses =
-      let planted = nat_lt (tip_of links) exit.parent && not (is_challenged (tip_of links) exit.challenges) in
-      let own = exit.block == tip_of links in
-      let calls = within log exit.start CHALLENGE_WINDOW (Before account links.coin exit.block (tip_shown links)) in
-      let made = λ (link : Link).
-      within log exit.start CHALLENGE_WINDOW (Between account links.coin exit.block link.opening) in
-      second (nat_lt (tip_of links) exit.block) parted planted own calls made
-    where
-      second : (later : Bool) (found : Option Link) (planted own : Bool) (calls : List RootCall)
-          (made : Link → List RootCall)
-          → unwrap_or (option_or (if later then option_map made found else None)
-          (option_or (if planted then Some calls else None) (if own then Some responses else None))) []
-          ≡ (if later && is_some found then option_map_or made found []
-          else if planted then calls else if own then responses else [])
-      second true (Some link) planted own calls made = refl
-      second true None planted own calls made = last-rules planted own calls responses
-      second false found planted own calls made = last-rules planted own calls responses
+  rules-table left parted responses = grind (arith, common_steps, last-rules) steps 20000
 
 -- what is due for an exit, by what gives the link after a block
 module _ (log : List RootCall) (account : ℕ) (links : Links) (exit : ExitView) where

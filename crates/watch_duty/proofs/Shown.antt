@@ -1,10 +1,11 @@
 -- What the standing exits of a legal log were shown by: each was started, and each challenge of it was made, with
 -- openings in calls of the log.
-use Rattle.std.proofs.Common.{◌≡◌, ℕ, ◌<◌, ◌==◌, ◌&&◌, Bool, true, false, if◌then◌else◌, List, [], ◌∷◌, ◌++◌, map, Option, Some, None, inl, inr, refl, sym, ap, ◌∙◌, subst, arith, find}
-use Rattle.std.specs.Prelude.{is_some, nat_lt}
+use Rattle.std.proofs.Common.{◌≡◌, ℕ, ◌<◌, ◌==◌, Bool, true, false, if◌then◌else◌, List, [], ◌∷◌, ◌++◌, map, Option, Some, None, inl, inr, refl, sym, ap, ◌∙◌, subst, arith, find}
+use Rattle.std.specs.Prelude.{is_some}
 use Rattle.std.specs.Option.{option_map}
 use Rattle.std.specs.List.{AllByRecursion, flat_map}
 use Rattle.std.proofs.lemmas.Bool.{and_parts, eqb-true, eq-eqb, ltb-true}
+use Rattle.std.proofs.lemmas.Grind.{common_steps}
 use Rattle.plasma_tx.specs.declared.owner.Owner.{Owner}
 use Rattle.plasma_tx.specs.declared.opening.RawOpening.{RawOpening}
 use Rattle.plasma_tx.specs.declared.signed_tx.SignedTx.{SignedTx}
@@ -16,7 +17,7 @@ use Rattle.plasma_tx.specs.declared.views.CoinView.{CoinView}
 use Rattle.plasma_tx.specs.Openings.{leaf_in}
 use Rattle.plasma_tx.specs.Views.{Challenge, Exit, coin_at, block_of, owner_of, owner_of_coin, owner_of_opening, is_exit, deposit_exit, spend_exit, exits, exit_at, with_exit_changed, with_answer_at, with_challenge, new_challenge, challenge_at}
 use Rattle.plasma_tx.proofs.Leaves.{recipient-named}
-use Rattle.plasma_tx.specs.Shown.{Tests, Rules, root_at, shown_tx, shown_owner}
+use Rattle.plasma_tx.specs.Shown.{Tests, Rules, shown_tx, shown_owner}
 use Rattle.plasma_tx.specs.Table.{is_before_parent, is_parent_of}
 use Rattle.plasma_tx.specs.Accepted.{ShowsTx, StartsDeposit, StartsSpend, Challenges}
 use Rattle.plasma_tx.proofs.Accepted.{openings_show, accepted_calls_show}
@@ -168,41 +169,22 @@ module _ (tests : Tests) (rules : Rules) where
 
   start_deposit-shown : (log : List RootCall) (account c block : ℕ) → StartsDeposit log account c block
       → IsShownExit (StartDeposit account c block ∷ log) (deposit_exit log account c block)
-  start_deposit-shown log account c block is = record {
-    made = is.coin;
-    there = coin_at-grown log (StartDeposit account c block) c is.coin is.there;
-    begun = OfDeposit is.at_deposit refl (ap owner_of_coin is.there);
-    challenges = tt;
-  }
+  start_deposit-shown log account c block is = grind (arith, common_steps, coin_at-grown) steps 20000
 
   -- a parent that fits is the deposit, or later, and before the exit
   parent-at : (log : List RootCall) (made : CoinView) (exit_block : ℕ) (parent : Shown)
       → is_parent_of log made exit_block parent ≡ true → made.deposit < exit_block
       → ((block : ℕ) → parent ≡ AtDeposit block → block ≡ made.deposit)
       × ((o : RawOpening) → parent ≡ Spend o → made.deposit < o.block) × (block_of parent < exit_block)
-  parent-at log made exit_block (AtDeposit block) fits above =
-      let at = eqb-true block made.deposit fits in (
-        λ other e. let same : block ≡ other = cc in sym same ∙ at,
-        λ o e. absurd (cc e),
-        omega arith,
-      )
-  parent-at log made exit_block (Spend opening) fits above =
-      let parts = and_parts (is_some (root_at log opening.block) && nat_lt made.deposit opening.block)
-      (nat_lt opening.block exit_block) fits in
-      let low : made.deposit < opening.block = ltb-true made.deposit opening.block
-      (and_parts (is_some (root_at log opening.block)) (nat_lt made.deposit opening.block) parts.0).1 in (
-        λ other e. absurd (cc e),
-        λ o e. let same : opening ≡ o = cc in subst (λ (p : RawOpening). made.deposit < p.block) same low,
-        ltb-true opening.block exit_block parts.1,
-      )
+  parent-at log made exit_block parent fits above =
+      grind (arith, common_steps, eqb-true, and_parts, ltb-true) steps 20000
 
   start_spend-shown : (log : List RootCall) (account c : ℕ) (parent : Shown) (exit : RawOpening)
       → StartsSpend tests rules log account c parent exit
       → IsShownExit (StartSpend account c parent exit ∷ log) (spend_exit log account c parent exit)
   start_spend-shown log account c parent exit is =
       let call : RootCall = StartSpend account c parent exit in
-      let above : is.coin.deposit < exit.block = ltb-true is.coin.deposit exit.block
-      (and_parts (is_some (root_at log exit.block)) (nat_lt is.coin.deposit exit.block) is.committed).1 in
+      let above : is.coin.deposit < exit.block = grind (arith, common_steps, ltb-true, and_parts) steps 20000 in
       let fits = parent-at log is.coin exit.block parent is.parent_fits above in
       let has : (o : RawOpening) → Has (shown_openings parent ++ exit ∷ []) o → Has (openings_of_call c call) o =
       has-own c (shown_openings parent ++ exit ∷ []) in
@@ -224,28 +206,7 @@ module _ (tests : Tests) (rules : Rules) where
       → found ≡ Some made → is_before_parent log found x shown ≡ true
       → ((block : ℕ) → shown ≡ AtDeposit block → block ≡ made.deposit)
       × ((o : RawOpening) → shown ≡ Spend o → made.deposit < o.block) × (block_of shown < x.parent)
-  before-at log made x shown None there is = absurd (cc there)
-  before-at log made x (AtDeposit block) (Some coin) there is =
-      let same : coin ≡ made = cc in
-      let parts = and_parts (block == coin.deposit) (nat_lt coin.deposit x.parent) is in
-      let at = eqb-true block coin.deposit parts.0 in
-      let less = ltb-true coin.deposit x.parent parts.1 in (
-        λ other e. let own : block ≡ other = cc in sym own ∙ at ∙ ap (λ (m : CoinView). m.deposit) same,
-        λ o e. absurd (cc e),
-        omega arith,
-      )
-  before-at log made x (Spend opening) (Some coin) there is =
-      let same : coin ≡ made = cc in
-      let parts = and_parts (is_some (root_at log opening.block) && nat_lt coin.deposit opening.block)
-      (nat_lt opening.block x.parent) is in
-      let low : coin.deposit < opening.block = ltb-true coin.deposit opening.block
-      (and_parts (is_some (root_at log opening.block)) (nat_lt coin.deposit opening.block) parts.0).1 in (
-        λ other e. absurd (cc e),
-        λ o e. let own : opening ≡ o = cc in
-            subst (λ (p : RawOpening). made.deposit < p.block) own
-            (subst (λ (m : CoinView). m.deposit < opening.block) same low),
-        ltb-true opening.block x.parent parts.1,
-      )
+  before-at log made x shown found there is = grind (arith, common_steps, and_parts, eqb-true, ltb-true) steps 20000
 
   challenged-shown : (log : List RootCall) (account c e : ℕ) (shown : Shown)
       → (is : Challenges tests rules log account c e shown) → IsShownExit log is.exit → is_exit c e is.exit ≡ true
@@ -271,8 +232,7 @@ module _ (tests : Tests) (rules : Rules) where
             (IsShownChallenge (call ∷ log) x.coin (seen (call ∷ log) x.coin) was.made x.parent)
             (challenge-more log call x.coin was.made x.parent) x.challenges was.challenges)
             (record {
-              shown = subst (λ k. IsShownAt (call ∷ log) k (seen (call ∷ log) k) was.made (block_of shown)
-                  (owner_of log c shown)) (sym own) at;
+              shown = grind (arith, common_steps) steps 20000;
               below = fits.2;
             });
       }
@@ -307,9 +267,7 @@ module _ (tests : Tests) (rules : Rules) where
       ap (λ (y : Exit). is_some (challenge_at (block_of shown) y.challenges)) same ∙ ap is_some is.none_there in
       ap_fact (λ (b : Bool). IsShownExit (call ∷ log)
       (if b then x else record x { challenges = x.challenges ++ new ∷ [] })) none
-      (subst (λ (y : Exit). IsShownExit (call ∷ log) (record y { challenges = y.challenges ++ new ∷ [] })) (sym same)
-      (challenged-shown log account c e shown is (subst (IsShownExit log) same was)
-      (subst (λ (y : Exit). is_exit c e y ≡ true) same named))))
+      (grind (arith, common_steps, challenged-shown) steps 20000))
       (exit-more log call) all
     where
       ap_fact : (P : Bool → Type 0) {b d : Bool} → b ≡ d → P d → P b
