@@ -1,7 +1,8 @@
 -- What an append and an opening tell of leaves.
-use Rattle.std.proofs.Common.{◌≡◌, ◌≤◌, ◌+◌, ◌-◌, max, ℕ, cond, true, false, List, [], ◌∷◌, ◌++◌, length, Option, Ok, refl, sym, ◌∙◌, ap, subst, arith, length-append}
+use Rattle.std.proofs.Common.{◌≡◌, ◌≤◌, ◌+◌, ◌-◌, max, ℕ, cond, true, false, List, [], ◌∷◌, ◌++◌, length, Option, Ok, sym, ◌∙◌, ap, subst, arith, length-append}
 use Rattle.std.specs.Result.{is_ok}
 use Rattle.std.proofs.lemmas.Bool.{lt-ltb, le-leb}
+use Rattle.std.proofs.lemmas.Grind.{common_steps}
 use Rattle.crash_disk.specs.Disk.{History, FaultPlan}
 use Rattle.crash_disk.specs.Calls.{WhereTold}
 use Rattle.gate_journal.specs.Image.{most, spelled}
@@ -31,14 +32,7 @@ pub ready_from : {D : Type 0} {told : Option History} {journal : JournalState
     D} {key : List ℕ} {kept : LeafRecordsState} → IsSound told journal key kept
     → journal.closed ≡ false → (body : List ℕ) → may_follow kept.leaves kept.records body ≡ true
     → IsReady journal kept.leaves kept.records body
-ready_from {kept = kept} sound is body follows = record {
-  open' = is;
-  are = sound.are;
-  follows = follows;
-  short = follows_short kept.leaves kept.records body follows;
-  bodies = sound.bodies is;
-  bytes = sound.bytes is;
-}
+ready_from {kept = kept} sound is body follows = grind (arith, common_steps, follows_short) steps 20000
 
 module _ {D : Type 0} {journal : JournalState D} {leaves : ℕ} {records : List (List ℕ)} {body : List ℕ}
     (ready : IsReady journal leaves records body) where
@@ -46,12 +40,7 @@ module _ {D : Type 0} {journal : JournalState D} {leaves : ℕ} {records : List 
   more_are = one_more every_message leaves records body ready.are ready.follows
 
   pub spare : has_spare journal (length body) ≡ true
-  spare =
-      let count = count_within leaves (records ++ body ∷ []) more_are in
-      rw (
-        lt-ltb 0 journal.spare_bodies (omega (arith, count, length-append records (body ∷ []), ready.bodies)),
-        le-leb (length body) journal.spare_bytes (omega (arith, ready.short, ready.bytes)),
-      ) refl
+  spare = grind (arith, common_steps, count_within, more_are, lt-ltb, le-leb) steps 20000
 
   pub fits : length body ≤ most
   fits = omega (arith, ready.short)
@@ -84,15 +73,11 @@ module _ {D : Type 0} (told : D → Option History) {plan : D → Option FaultPl
         let all = kept.records ++ body ∷ [] in
         let are = more_are ready in
         let count = count_within kept.leaves all are in
-        let gate : new.gate ≡ journal.gate + (5 + length body) = ap (λ (j : JournalState D). j.gate)
-        appended.journal in
+        let gate : new.gate ≡ journal.gate + (5 + length body) = grind (arith, common_steps) steps 20000 in
         let bodies : new.spare_bodies ≡ cond (has_spare journal (length body)) (journal.spare_bodies - 1)
         journal.spare_bodies = ap (λ (j : JournalState D). j.spare_bodies) appended.journal in
-        let bytes : new.spare_bytes ≡ max (length body) journal.spare_bytes = ap
-        (λ (j : JournalState D). j.spare_bytes)
-        appended.journal in
-        let one_less : new.spare_bodies ≡ journal.spare_bodies - 1 = bodies
-        ∙ ap (λ b. cond b (journal.spare_bodies - 1) journal.spare_bodies) (spare ready) in
+        let bytes : new.spare_bytes ≡ max (length body) journal.spare_bytes = grind (arith, common_steps) steps 20000 in
+        let one_less : new.spare_bodies ≡ journal.spare_bodies - 1 = grind (arith, common_steps, spare) steps 20000 in
         let here : IsSound (told new.disk) new key (record { leaves = kept.leaves; records = all }) = record {
           count = sound.count;
           are = are;
@@ -128,10 +113,8 @@ module _ {D : Type 0} (told : D → Option History) (new : JournalState D) (kept
   opened_sound {old = old} others count of_key room is fresh =
       let are : leaf_records kept.leaves kept.records ≡ Ok kept.records =
       ap (λ (n : ℕ). leaf_records n kept.records) count ∙ ap (leaf_records leaves) (sym same) ∙ read in
-      let gate : new.gate ≡ length (spelled bodies) = ap (λ (j : JournalState D). j.gate) is
-      ∙ ap (λ (j : JournalState D). j.gate) fresh in
-      let bodies_is : new.spare_bodies ≡ max others old.spare_bodies = ap (λ (j : JournalState D). j.spare_bodies)
-      is in
+      let gate : new.gate ≡ length (spelled bodies) = grind (arith, common_steps) steps 20000 in
+      let bodies_is : new.spare_bodies ≡ max others old.spare_bodies = grind (arith, common_steps) steps 20000 in
       let bytes_is : new.spare_bytes ≡ max 132 old.spare_bytes = ap (λ (j : JournalState D). j.spare_bytes) is in
       record {
         count = count ∙ of_key;

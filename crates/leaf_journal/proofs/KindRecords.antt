@@ -1,10 +1,11 @@
 -- Records whose messages pass a test: they are those that have the form, where each message passes.
-use Rattle.std.proofs.Common.{◌≡◌, ◌↔◌, ℕ, Bool, true, false, cond, List, [], ◌∷◌, ◌++◌, length, map, drop, Result, Ok, Err, refl, sym, ◌∙◌, ap, subst, inl, inr, eqb, ltb}
+use Rattle.std.proofs.Common.{◌≡◌, ◌↔◌, ℕ, Bool, true, false, cond, List, [], ◌∷◌, ◌++◌, length, map, drop, Result, Ok, Err, refl, sym, ◌∙◌, ap, subst, inl, inr, eqb, ltb, arith}
 use Rattle.std.specs.Prelude.{◌&&◌, ◌||◌}
 use Rattle.std.specs.List.{All}
 use Rattle.std.proofs.lemmas.Bool.{cases_Bool}
 use Rattle.std.proofs.lemmas.List.{take_at, drop_at}
 use Rattle.std.proofs.lemmas.List.Elements.{All-drop, All-head, All-nil, All-push, All-take}
+use Rattle.std.proofs.lemmas.Grind.{common_steps}
 use Rattle.gate_journal.specs.Image.{journal_in}
 use Rattle.leaf_journal.specs.Records.{every_message, has_number, is_marked, is_marker, leaf_records, leaf_records_of, leaf_records_read, leaf_records_read_of, may_follow, may_follow_of, messages_of, records_behind_of, MessagesPass}
 use Rattle.leaf_journal.specs.Laws.{KindRecords}
@@ -16,21 +17,14 @@ parts : (marked behind mark front number leaf whole : Bool)
     → cond marked ((behind && number) && leaf) (mark || ((front && whole) && leaf)) ≡ true
     → (cond marked (number && leaf) (mark || (whole && leaf)) ≡ true)
     × (marked ≡ true → behind ≡ true) × (marked ≡ false → mark ≡ false → front ≡ true)
-parts true true mark front number leaf whole is = (is, λ marked. refl, λ not. absurd (cc not))
-parts true false mark front number leaf whole is = absurd (cc is)
-parts false behind true front number leaf whole is =
-    (refl, λ marked. absurd (cc marked), λ not other. absurd (cc other))
-parts false behind false true number leaf whole is = (is, λ marked. absurd (cc marked), λ not other. refl)
-parts false behind false false number leaf whole is = absurd (cc is)
+parts marked behind mark front number leaf whole is = grind (arith, common_steps) steps 20000
 
 -- and put together
 joined : (marked behind mark front number leaf whole : Bool)
     → cond marked (number && leaf) (mark || (whole && leaf)) ≡ true
     → (marked ≡ true → behind ≡ true) → (marked ≡ false → mark ≡ false → front ≡ true)
     → cond marked ((behind && number) && leaf) (mark || ((front && whole) && leaf)) ≡ true
-joined true behind mark front number leaf whole is second first = rw (second refl) is
-joined false behind true front number leaf whole is second first = refl
-joined false behind false front number leaf whole is second first = rw (first refl refl) is
+joined marked behind mark front number leaf whole is second first = grind (arith, common_steps) steps 20000
 
 -- what holds of each element holds of those in front, and of the last one
 All-front : {X : Type 0} (P : X → Type 0) (xs ys : List X) → All P (xs ++ ys) → All P xs
@@ -45,9 +39,7 @@ module _ (is_message : List ℕ → Bool) (leaves : ℕ) where
       → (may_follow leaves before body ≡ true)
       × (is_marked before ≡ true → is_message (drop 4 body) ≡ true)
       × (is_marked before ≡ false → is_marker body ≡ false → is_message body ≡ true)
-  follows_parts before body may = parts (is_marked before) (is_message (drop 4 body)) (is_marker body)
-      (is_message body) (has_number (length (messages_of before)) body) (ltb (length (messages_of before)) leaves)
-      (eqb (length body) 116) may
+  follows_parts before body may = grind (arith, common_steps, parts) steps 20000
 
   form_step : (before : List (List ℕ)) (body : List ℕ) → leaf_records leaves before ≡ Ok before
       → may_follow_of is_message leaves before body ≡ true
@@ -109,8 +101,7 @@ module _ (is_message : List ℕ → Bool) (leaves : ℕ) where
         let rest = sym (step_on every_message leaves before body records may) ∙ is in
         let whole : next ++ records ≡ all = behind-all every_message leaves next records all rest in
         let front = pass_front next records (subst (MessagesPass is_message) (sym whole) have) in
-        step_on is_message leaves before body records (follows_with before body may front)
-        ∙ with_messages next records all rest have
+        grind (arith, common_steps, with_messages next records all rest have, step_on, follows_with) steps 20000
     | inr not ↦ absurd (let out = step_out every_message leaves before body records not in cc (out, is))
   ]
 
@@ -119,8 +110,5 @@ kind_records is_message leaves image records = at (journal_in image)
   where
     at : (r : Result (List (List ℕ)) ℕ) → (leaf_records_read_of is_message leaves r ≡ Ok records)
         ↔ ((leaf_records_read leaves r ≡ Ok records) × MessagesPass is_message records)
-    at (Ok read) = (
-      λ is. (form_of is_message leaves read records is, messages_pass is_message leaves read records is),
-      λ both. with_messages is_message leaves [] read records both.0 both.1,
-    )
+    at (Ok read) = grind (arith, common_steps, form_of, messages_pass, with_messages) steps 20000
     at (Err place) = (λ is. absurd (cc is), λ both. absurd (cc both.0))

@@ -1,21 +1,21 @@
 -- What a journal of leaves keeps through its life.
-use Rattle.std.proofs.Common.{◌≡◌, ◌≤◌, ℕ, true, false, cond, List, [], ◌∷◌, ◌++◌, length, map, drop, get_or, Some, Result, Ok, Err, refl, sym, ◌∙◌, ap, arith, lit≤}
+use Rattle.std.proofs.Common.{◌≡◌, ◌≤◌, ℕ, true, false, cond, List, [], ◌∷◌, ◌++◌, length, map, drop, get_or, Some, Ok, refl, arith, lit≤}
 use Rattle.std.specs.List.{slice_get}
-use Rattle.std.specs.Result.{is_ok, result_ok}
 use Rattle.std.proofs.lemmas.Option.{option_and_then_some, slice_get_within, get_or_from_slice_get}
 use Rattle.std.proofs.lemmas.List.{get_or_append_left}
+use Rattle.std.proofs.lemmas.Grind.{common_steps}
 use Rattle.crash_disk.specs.Disk.{content}
 use Rattle.crash_disk.specs.Calls.{with_made}
 use Rattle.crash_disk.specs.Outcomes.{image_after}
 use Rattle.crash_disk.proofs.Left.{content_may_be_left}
-use Rattle.gate_journal.specs.Image.{most, journal_in, spelled}
+use Rattle.gate_journal.specs.Image.{most, spelled}
 use Rattle.gate_journal.specs.Steps.{append_steps}
 use Rattle.gate_journal.specs.Journal.{Keeps}
 use Rattle.gate_journal.specs.Laws.{is_added}
 use Rattle.gate_journal.specs.Life.{records_in, Continue}
 use Rattle.gate_journal.proofs.Lives.{in_keeps, records_stay, made_journals_stay}
 use Rattle.gate_journal.proofs.Crash.{stopped_appends}
-use Rattle.leaf_journal.specs.Records.{are_leaf_records, binding_record, every_message, is_marked, leaf_records, leaf_records_in, leaf_records_read, marker, messages_of}
+use Rattle.leaf_journal.specs.Records.{are_leaf_records, binding_record, every_message, is_marked, leaf_records, leaf_records_in, marker, messages_of}
 use Rattle.leaf_journal.specs.Laws.{ALeafHasOneMessage, BoundMessagesStay, MadeJournalsStay as LeavesStay, StoppedBinds, StoppedMigrations, life_after}
 use Rattle.leaf_journal.proofs.Messages.{messages-append}
 use Rattle.leaf_journal.proofs.Form.{all_same, one_more, follows_short}
@@ -26,34 +26,21 @@ messages_continue : (earlier later : List (List ℕ)) → Continue earlier later
     → Continue (messages_of earlier) (messages_of later)
 messages_continue earlier later on = (
   cond (is_marked earlier) (map (drop 4) on.0) (messages_of on.0),
-  ap messages_of on.1
-      ∙ messages-append earlier on.0,
+  grind (arith, common_steps, messages-append) steps 20000,
 )
 
 -- an image that keeps records of leaves
 pub in_image : (leaves : ℕ) (image : List ℕ) (records : List (List ℕ)) → Keeps records image
     → leaf_records leaves records ≡ Ok records → leaf_records_in leaves image ≡ Ok records
-in_image leaves image records keeps are = at (journal_in image) keeps
-  where
-    at : (r : Result (List (List ℕ)) ℕ) → result_ok r ≡ Some records → leaf_records_read leaves r ≡ Ok records
-    at (Ok read) is = (let same : read ≡ records = cc is in ap (leaf_records leaves) same ∙ are)
-    at (Err place) is = absurd (cc is)
+in_image leaves image records keeps are = grind (arith, common_steps) steps 20000
 
 pub are_kind : (leaves : ℕ) (records : List (List ℕ)) → are_leaf_records leaves records ≡ true
     → leaf_records leaves records ≡ Ok records
-are_kind leaves records is = at (leaf_records leaves records) refl is
-  where
-    at : (r : Result (List (List ℕ)) ℕ) → leaf_records leaves records ≡ r → is_ok r ≡ true
-        → leaf_records leaves records ≡ Ok records
-    at (Ok all) read is = read
-        ∙ ap (λ (l : List (List ℕ)). Ok l) (sym (all_same every_message leaves records all read))
-    at (Err place) read is = absurd (cc is)
+are_kind leaves records is = grind (arith, common_steps, all_same) steps 20000
 
 in_life : (leaves : ℕ) (image : List ℕ) (records : List (List ℕ))
     → records_in (are_leaf_records leaves) image ≡ Some records → leaf_records_in leaves image ≡ Ok records
-in_life leaves image records is =
-    let parts = in_keeps (are_leaf_records leaves) image records is in
-    in_image leaves image records parts.0 (are_kind leaves records parts.1)
+in_life leaves image records is = grind (arith, common_steps, in_keeps, in_image, are_kind) steps 20000
 
 pub bound_messages_stay : BoundMessagesStay
 bound_messages_stay leaves disk earlier later records may is =
@@ -70,9 +57,7 @@ same_message messages others leaf one other on was is =
     let within = slice_get_within messages leaf one was in
     let here : get_or messages leaf [] ≡ one = get_or_from_slice_get messages leaf one [] was in
     let there : get_or others leaf [] ≡ other = get_or_from_slice_get others leaf other [] is in
-    let same : get_or others leaf [] ≡ get_or messages leaf [] = ap (λ (l : List (List ℕ)). get_or l leaf []) on.1
-    ∙ get_or_append_left messages on.0 [] leaf within in
-    sym here ∙ sym same ∙ there
+    grind (arith, common_steps, get_or_append_left) steps 20000
 
 pub a_leaf_has_one_message : ALeafHasOneMessage
 a_leaf_has_one_message leaves disk earlier later leaf one other may was is =

@@ -1,6 +1,6 @@
 -- The messages of records.
 use mir.Val.{bool_byte}
-use Rattle.std.proofs.Common.{◌≡◌, ◌≢◌, ◌<◌, ◌≤◌, ◌+◌, ℕ, zero, suc, Bool, true, false, not, cond, List, [], ◌∷◌, ◌++◌, length, map, drop, refl, sym, ◌∙◌, ap, inl, inr, arith, ltb}
+use Rattle.std.proofs.Common.{◌≡◌, ◌≢◌, ◌<◌, ◌≤◌, ◌+◌, ℕ, zero, suc, Bool, true, false, not, cond, List, [], ◌∷◌, ◌++◌, length, map, drop, refl, ◌∙◌, ap, arith, ltb}
 use Rattle.std.proofs.lemmas.Bool.{cases_Bool, lt-ltb, le-ltb}
 use Rattle.std.proofs.lemmas.List.{map-append, length-map}
 use Rattle.std.proofs.lemmas.Option.{slice_get-map}
@@ -8,6 +8,7 @@ use Rattle.std.proofs.lemmas.Slice.Eq.{bytes_eq-Decides}
 use Rattle.std.specs.Option.{option_map}
 use Rattle.std.specs.List.{slice_get}
 use Rattle.std.specs.Prelude.{◌||◌}
+use Rattle.std.proofs.lemmas.Grind.{common_steps}
 use Rattle.leaf_journal.specs.Records.{is_marked, is_marker, marker, messages_of}
 use Rattle.leaf_journal.specs.Sound.{first_count}
 
@@ -15,20 +16,12 @@ use Rattle.leaf_journal.specs.Sound.{first_count}
 pub messages-append : (xs ys : List (List ℕ)) → messages_of (xs ++ ys) ≡ messages_of xs ++ cond (is_marked xs)
     (map (drop 4) ys) (messages_of ys)
 messages-append [] ys = refl
-messages-append (x ∷ xs) ys = elim (is_marker x) as (λ b. cond b (map (drop 4) (xs ++ ys)) (x ∷ messages_of (xs ++ ys))
-    ≡ cond b (map (drop 4) xs) (x ∷ messages_of xs) ++ cond (b || is_marked xs) (map (drop 4) ys) (messages_of ys)) [
-      | true ↦ map-append (drop 4) xs ys
-      | false ↦ ap (λ (l : List (List ℕ)). x ∷ l) (messages-append xs ys)
-    ]
+messages-append (x ∷ xs) ys = grind (arith, common_steps, messages-append xs ys, map-append) steps 20000
 
 -- a marker is no message
 pub messages-count : (xs : List (List ℕ)) → length (messages_of xs) + cond (is_marked xs) 1 0 ≡ length xs
 messages-count [] = refl
-messages-count (x ∷ xs) = elim (is_marker x) as (λ b. length (cond b (map (drop 4) xs) (x ∷ messages_of xs)) + cond
-    (b || is_marked xs) 1 0 ≡ length (x ∷ xs)) [
-      | true ↦ omega (arith, length-map xs (drop 4))
-      | false ↦ omega (arith, messages-count xs)
-    ]
+messages-count (x ∷ xs) = grind (arith, common_steps, messages-count xs, length-map) steps 20000
 
 -- how many records stand before the marker
 pub first-marked : (xs : List (List ℕ)) → is_marked xs ≡ true → first_count xs < length xs
@@ -50,16 +43,10 @@ first-unmarked (x ∷ xs) is' = (elim (is_marker x) as (λ b. (b || is_marked xs
     ]) is'
 
 pub first_le : (xs : List (List ℕ)) → first_count xs ≤ length xs
-first_le xs = elim (cases_Bool (is_marked xs)) [
-  | inl is ↦ omega (arith, first-marked xs is)
-  | inr not ↦ omega (arith, first-unmarked xs not)
-]
+first_le xs = grind (arith, common_steps, cases_Bool, first-marked, first-unmarked) steps 20000
 
 pub is_marked-count : (xs : List (List ℕ)) → is_marked xs ≡ ltb (first_count xs) (length xs)
-is_marked-count xs = elim (cases_Bool (is_marked xs)) [
-  | inl is ↦ is ∙ sym (lt-ltb _ _ (first-marked xs is))
-  | inr not ↦ not ∙ sym (le-ltb _ _ (omega (arith, first-unmarked xs not)))
-]
+is_marked-count xs = grind (arith, common_steps, cases_Bool, lt-ltb, first-marked, le-ltb, first-unmarked) steps 20000
 
 -- one more record
 pub first-append : (xs : List (List ℕ)) (body : List ℕ)
@@ -92,11 +79,7 @@ byte-not false n = refl
 pub get-before : (xs : List (List ℕ)) (q : ℕ) → q < first_count xs → slice_get (messages_of xs) q ≡ slice_get xs q
 unfolding first_count
 get-before [] q l = refl
-get-before (x ∷ xs) zero l' = (elim (is_marker x) as (λ b. 0 < cond b 0 (suc (first_count xs))
-    → slice_get (cond b (map (drop 4) xs) (x ∷ messages_of xs)) zero ≡ slice_get (x ∷ xs) zero) [
-      | true ↦ λ l. absurd (omega arith)
-      | false ↦ λ l. refl
-    ]) l'
+get-before (x ∷ xs) zero l' = grind (arith, common_steps) steps 20000
 get-before (x ∷ xs) (suc q) l' = (elim (is_marker x)
     as (λ b. suc q < cond b 0 (suc (first_count xs))
     → slice_get (cond b (map (drop 4) xs) (x ∷ messages_of xs)) (suc q) ≡ slice_get (x ∷ xs) (suc q)) [
@@ -108,11 +91,7 @@ pub get-behind : (xs : List (List ℕ)) (q : ℕ) → first_count xs ≤ q
     → slice_get (messages_of xs) q ≡ option_map (drop 4) (slice_get xs (suc q))
 unfolding first_count
 get-behind [] q l = refl
-get-behind (x ∷ xs) zero l' = (elim (is_marker x) as (λ b. cond b 0 (suc (first_count xs)) ≤ 0
-    → slice_get (cond b (map (drop 4) xs) (x ∷ messages_of xs)) zero ≡ option_map (drop 4) (slice_get xs zero)) [
-      | true ↦ λ l. slice_get-map (drop 4) xs zero
-      | false ↦ λ l. absurd (omega arith)
-    ]) l'
+get-behind (x ∷ xs) zero l' = grind (arith, common_steps, slice_get-map) steps 20000
 get-behind (x ∷ xs) (suc q) l' = (elim (is_marker x)
     as (λ b. cond b 0 (suc (first_count xs)) ≤ suc q
     → slice_get (cond b (map (drop 4) xs) (x ∷ messages_of xs)) (suc q) ≡ option_map (drop 4) (slice_get xs (suc q))) [
@@ -122,10 +101,7 @@ get-behind (x ∷ xs) (suc q) l' = (elim (is_marker x)
 
 -- a record of another length is no marker, and the marker has four bytes
 pub other_length : (body : List ℕ) → length body ≢ 4 → is_marker body ≡ false
-other_length body other = elim (cases_Bool (is_marker body)) [
-  | inl is ↦ absurd (other (ap length ((bytes_eq-Decides body marker).0 is)))
-  | inr no' ↦ no'
-]
+other_length body other = grind (arith, common_steps, cases_Bool, bytes_eq-Decides) steps 20000
 
 pub marker_length : (body : List ℕ) → is_marker body ≡ true → length body ≡ 4
 marker_length body is = ap length ((bytes_eq-Decides body marker).0 is)
