@@ -18,6 +18,12 @@ HEAD = re.compile(r" *((?:(?:pattern|axiom|unfoldable|abbrev|pub) )*)(\S+)")
 PARTING = re.compile(r"[(){}\[\]]|(?<!\S)[:=](?!\S)")
 TYPE = re.compile(r"(?:→|(?<!\S):)\s+Type\s+(?:\w+|\([^()]*\))$")
 USE = re.compile(r" *(?:unfoldable )?(pub )?use ([^\s{]+?)(?:\.\{(.*)\}| as (\S+))?$", re.S)
+# In the braces of a `use` line, a group of names behind the module that has them, or a name; and a line with groups.
+GROUP = re.compile(r"\s*([^\s,{}]+\.)\{([^{}]*)\}|([^,{}]+)")
+GROUPED = re.compile(r"^( *(?:unfoldable )?(?:pub )?use [^\s{]+\.)\{([^{}]*\{.*)\}$", re.M)
+# A line with the names of one module of this repository, and how long one with those of several may be.
+ALONE = re.compile(r"use (Rattle\.(?!std\.)\w+\.\w+)\.(\S+\.\{[^{}]*\})$")
+WIDEST = 240
 # What an item may begin with that is neither a signature nor a clause; the last two have items of their own.
 OTHERS = ("use", "mod", "open", "infix", "infixl", "infixr", "ruleset", "record", "data", "unfolding", "deriving")
 AROUND, ENDS = ("module", "mutual"), ("where", "mutual")
@@ -123,8 +129,46 @@ def imports_of(item):
     if names is None:
         last = path.rpartition(".")[2]
         return [Import(path, other or last, item.lines[0][0], passed)] if last != "*" else []
-    each = (" ".join(it.split()) for it in names.split(","))
-    return [Import(it, re.split(r"[ .]", it)[-1].strip("«»"), item.lines[0][0], passed) for it in each if it]
+    groups = ((path, among.split(",")) for path, among in groups_in(names))
+    each = (f"{path}{' '.join(it.split())}" for path, among in groups for it in among if it.strip())
+    return [Import(it, re.split(r"[ .]", it)[-1].strip("«»"), item.lines[0][0], passed) for it in each]
+
+
+def groups_in(names):
+    """The groups of what stands in the braces of a `use` line, with the paths to them; a name by itself has none."""
+    return [(path, among or name) for path, among, name in GROUP.findall(names)]
+
+
+def in_groups(names):
+    """What stands in the braces for names that are written with their paths: those of one module in one group."""
+    found = {}
+    for path, dot, name in (it.rpartition(".") for it in names):
+        found.setdefault(path + dot, []).append(name)
+    return ", ".join(f"{path}{{{', '.join(each)}}}" if path else ", ".join(each) for path, each in found.items())
+
+
+def ungrouped(text):
+    """The text with a `use` line for each module, where one line has the names of several."""
+    return GROUPED.sub(lambda it: "\n".join(f"{it[1]}{path}{{{names.strip()}}}" for path, names in groups_in(it[2])
+                                            if names.strip()), text)
+
+
+def grouped(text):
+    """The text with what it brings of one crate's modules in one `use` line, or in as many as are no longer than one
+    may be.
+    """
+    kept, begun = [], {}
+    for line in ungrouped(text).split("\n"):
+        found = ALONE.match(line)
+        root, group = found.groups() if found else (line, "")
+        groups = begun.get(root) if found else None
+        if groups and len(f"use {root}.{{{', '.join([*groups, group])}}}") <= WIDEST:
+            groups.append(group)
+            continue
+        kept.append((root, [group] if found else []))
+        begun[root] = kept[-1][1]
+    return "\n".join(f"use {root}.{', '.join(groups) if len(groups) == 1 else '{' + ', '.join(groups) + '}'}"
+                     if groups else root for root, groups in kept)
 
 
 def standing(items):
@@ -156,5 +200,5 @@ def without_unused(text):
         first, last = item.lines[0][0] - 1, item.lines[-1][0]
         code = joined(item)
         behind = lines[last - 1][len(item.lines[-1][1]) :]
-        lines[first:last] = [code[: code.index("{") + 1] + ", ".join(left) + "}" + behind] if left else []
+        lines[first:last] = [code[: code.index("{") + 1] + in_groups(left) + "}" + behind] if left else []
     return re.sub(r"\n{3,}", "\n\n", "\n".join(lines)).lstrip("\n") if gone else text

@@ -115,7 +115,8 @@ class Proofs(unittest.TestCase):
                 with open(f"{room}/crates/one/proofs/below/{name}.antt", "w", encoding="utf-8") as file:
                     file.write(text)
             files = [*self.script.files_of("one", room)]
-            self.assertEqual(self.said(self.script.drop_unused, files, room), "crates/one/proofs/below/Some.antt\n")
+            said = self.said(self.script.rewrite, files, antt.without_unused, room)
+            self.assertEqual(said, "crates/one/proofs/below/Some.antt\n")
             self.assertEqual([text for _, text in self.script.files_of(None, room)], [LEFT, LEFT])
 
     def test_tables(self):

@@ -83,7 +83,8 @@ class Function:
         end = end_of(text, at)
         self.bounds = {**outer, **inner}
         self.parameters = [parameter for parameter in parts(text[at + 1 : end - 1])]
-        self.clauses, self.body, self.body_at = [], None, None
+        # Of each clause its place in the code, and that of what stands in front of it.
+        self.clauses, self.places, self.body, self.body_at = [], [], None, None
         self.gives = self.read(text, end)
 
     def read(self, text, at):
@@ -100,6 +101,7 @@ class Function:
                     self.body, self.body_at = text[at:end], at
                     break
                 self.clauses.append(text[at:end])
+                self.places.append((first, at, end))
                 at = first = end
             elif text[at] == ";":
                 gives = text[first:at] if gives is None else gives

@@ -166,7 +166,8 @@ def passed_on(texts):
     """What lemma files pass on by `pub use` and is no lemma, by the names of these files."""
     found = {}
     for file, text in texts.items():
-        items = [item for item in antt.items_of(text) if item.word == "use"] if "pub use " in text else []
+        items = antt.items_of(antt.ungrouped(text)) if "pub use " in text else []
+        items = [item for item in items if item.word == "use"]
         words = [item for item in items if not has_lemmas(antt.USE.match(antt.joined(item))[2])]
         found[file] = {it.name for item in words for it in antt.imports_of(item) if it.passed}
     return found
@@ -175,7 +176,7 @@ def passed_on(texts):
 def known_in(text, words=None):
     """The names of lemmas that a file declares, or imports from proofs, but for words that the file there passes on."""
     found = {it.name for it in lemmas_of(text)}
-    for item in antt.items_of(text):
+    for item in antt.items_of(antt.ungrouped(text)):
         path = antt.USE.match(antt.joined(item))[2] if item.word == "use" else ""
         if has_lemmas(path):
             names = {it.name for it in antt.imports_of(item)} - (words or {}).get(path.rpartition(".")[2], set())

@@ -28,13 +28,13 @@ class Cited:
         self.words = {part for word in self.words for part in (word, word.strip("`"))}
         own = {f"{top}/crates/{crate}/proofs/{name}.antt" for name in names}
         self.texts = [text_of(path) for path in glob.glob(f"{top}/**/*.antt", recursive=True) if path not in own]
-        self.texts = [text for text in self.texts if self.start in text]
+        self.texts = [antt.ungrouped(text) for text in self.texts if self.start in text]
 
     def imported(self, name, texts):
         """The names that any file but the lemma file itself imports of it; None among them where it is named whole."""
         found, module = set(), re.escape(self.start + name)
         sought = re.compile(module + r"(?:\.\{([^}]*)\}|\.([^\s{};.(),]+)|(?![.\w-]))")
-        for text in [*self.texts, *(text for other, text in texts.items() if other != name)]:
+        for text in [*self.texts, *(antt.ungrouped(text) for other, text in texts.items() if other != name)]:
             for many, one in sought.findall(text):
                 found |= {it.split()[0].strip("«»") for it in many.split(",") if it.strip()} if many else {one or None}
         return found
