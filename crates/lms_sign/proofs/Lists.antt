@@ -101,16 +101,3 @@ set_next f xs k v d within here before n below = elim (cases_lt n k) [
       let same : n ≡ k = omega arith in
       rw same (get_or-set_same xs k v d within ∙ here)
 ]
-
--- what holds of each element of a list set up to k, when it holds of those before it
-pub set_each : {X : Type 0} (P : ℕ → X → Type 0) (xs : List X) (k : ℕ) (v d : X) → k < length xs → P k v
-    → ((n : ℕ) → n < k → P n (get_or xs n d)) → (n : ℕ) → n < k + 1 → P n (get_or (set xs k v) n d)
-set_each P xs k v d within here before n below = elim (cases_lt n k) [
-  | inl earlier ↦
-      let kept = get_or-set_other xs k n v d (omega arith) in
-      rw kept (before n earlier)
-  | inr last ↦
-      let same : n ≡ k = omega arith in
-      let put = get_or-set_same xs k v d within in
-      rw (same, put) here
-]

@@ -1,5 +1,5 @@
 -- Blocks of SHA-256 side by side, and what the steps of several chains begin with.
-use Rattle.std.specs.Prelude.{◌≡◌, ℕ, ◌+◌, ◌*◌, ◌/◌, ◌%◌, ◌^◌, ◌<◌, List, [], ◌∷◌, ◌++◌, length, slice_index, take}
+use Rattle.std.specs.Prelude.{◌≡◌, ℕ, ◌+◌, ◌*◌, ◌/◌, ◌%◌, ◌^◌, ◌<◌, List, [], ◌∷◌, ◌++◌, length, map, slice_index, take}
 use Rattle.sha2.specs.Sha256.{compress, digest_bytes, initial_hash_256, rounds, schedule, word_at}
 use Rattle.lms_sign.specs.Types.{u8str, u16str, u32str}
 use Rattle.lms_sign.specs.declared.lanes.Begun.{Begun}
@@ -21,6 +21,10 @@ IsLeaf id q words = (block : List ℕ) → take 20 block ≡ id ++ u32str q
 abbrev pub IsBegun : List ℕ → ℕ → Begun → Type 0
 IsBegun id q begun = IsLeaf id q begun.words
     × ((block : List ℕ) → take 20 block ≡ id ++ u32str q → begun.rounds ≡ five_rounds block)
+
+-- the hash value of a lane, which has one word in each row
+abbrev pub lane_hash : List (List ℕ) → ℕ → List ℕ
+lane_hash rows k = map (λ row. slice_index row k) rows
 
 -- what pads a message of 55 bytes
 abbrev pub block_padding : List ℕ

@@ -7,7 +7,7 @@ ghost use Rattle.lms_sign.specs.Lanes.{HasWords, IsBegun};
 ghost use Rattle.lms_sign.specs.OneTime.{chain_value};
 
 use super::fields::{put, u32str};
-use super::lanes::{Begun, first_five_rounds, next_hashes};
+use super::lanes::{Begun, first_five_rounds, lane_hash, next_hashes, set_lane};
 
 // A block that begins as those of all steps of the chains of leaf q do.
 fn leaf_block(id: &[u8; 16], q: u32) -> [u8; 64]
@@ -90,16 +90,16 @@ pub(crate) fn strings_after(
         → slice_index marks.now k ≡ i * 256 + j → i < 2 ^ 16 → j + count ≤ 2 ^ 8
         → slice_index_or result k [] ≡ chain_value id q i j count (slice_index_or strings.now k []) }
 {
-    let mut hashes = [[0; 8]; 8];
+    let mut rows = [[0; 8]; 8];
     'load: for k in 0..8 {
-        hashes[k] = hash_of(&strings[k]);
+        set_lane(&mut rows, k, hash_of(&strings[k]));
     }
     'steps: for step in 0..count {
-        next_hashes(begun, marks, u32::from(step), &mut hashes);
+        next_hashes(begun, marks, u32::from(step), &mut rows);
     }
     let mut ends = [[0; 32]; 8];
     'store: for k in 0..8 {
-        ends[k] = digest(&hashes[k]);
+        ends[k] = digest(&lane_hash(&rows, k));
     }
     ends
 }

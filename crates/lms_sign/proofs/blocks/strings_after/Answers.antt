@@ -1,19 +1,24 @@
-use Rattle.std.proofs.Common.{rules, ◌≡◌, ℕ, ◌+◌, ◌∙◌, List, [], ap, arith, refl, slice_index_or, sym}
+use Rattle.std.proofs.Common.{rules, ◌≡◌, ℕ, ◌+◌, ◌∙◌, inl, inr, List, [], ap, arith, refl, slice_index_or, sym}
+use Rattle.std.proofs.lemmas.Bool.{cases_lt}
 use Rattle.sha2.specs.Sha256.{digest_bytes}
+use Rattle.lms_sign.specs.Lanes.{lane_hash}
 use Rattle.lms_sign.specs.OneTime.{chain_step, chain_value}
-use Rattle.lms_sign.proofs.Lists.{chain_value-last, chain_value-none, set_each, set_next}
+use Rattle.lms_sign.proofs.Lists.{chain_value-last, chain_value-none, set_next}
 use Rattle.lms_sign.proofs.blocks.strings_after.Goals as goal
 
 pub load-preserved : goal.load-preserved
-load-preserved c = (
-  search rules,
-  set_each (λ n (h : List ℕ). digest_bytes h 8 ≡ slice_index_or c.args.strings.now n []) c.load.hashes c.load.k
-      c.hash_of.result [] (omega arith) c.hash_of.ensures c.load.invariant.1,
-)
+load-preserved c = λ n below.
+    let bytes : List ℕ → List ℕ = λ h. digest_bytes h 8 in
+    elim (cases_lt n c.load.k) [
+      | inl earlier ↦ ap bytes (c.set_lane.ensures.kept n (omega arith)) ∙ c.load.invariant n earlier
+      | inr last ↦
+          let same : n ≡ c.load.k = omega arith in
+          rw same (ap bytes c.set_lane.ensures.value ∙ c.hash_of.ensures)
+    ]
 
 pub steps-init : goal.steps-init
 steps-init c = λ n below id q i j of_id begun of_mark small fits.
-    c.load.invariant.1 n (omega arith) ∙ sym (chain_value-none id q i j 0 (slice_index_or c.args.strings.now n []) refl)
+    c.load.invariant n (omega arith) ∙ sym (chain_value-none id q i j 0 (slice_index_or c.args.strings.now n []) refl)
 
 pub steps-preserved : goal.steps-preserved
 steps-preserved c = λ n below id q i j of_id begun of_mark small fits.
@@ -25,8 +30,8 @@ steps-preserved c = λ n below id q i j of_id begun of_mark small fits.
 pub store-preserved : goal.store-preserved
 store-preserved c = (
   search rules,
-  set_next (λ n. digest_bytes (slice_index_or c.steps.hashes n []) 8) c.store.ends c.store.k c.digest.result []
-      (omega arith) c.digest.ensures c.store.invariant.1,
+  set_next (λ n. digest_bytes (lane_hash c.steps.rows n) 8) c.store.ends c.store.k c.digest.result [] (omega arith)
+      (c.digest.ensures ∙ ap (λ (h : List ℕ). digest_bytes h 8) c.lane_hash.ensures) c.store.invariant.1,
 )
 
 pub returns : goal.returns
