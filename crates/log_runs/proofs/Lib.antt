@@ -1,4 +1,4 @@
-mod GrowLaws
+pub mod GrowLaws
 pub mod RunLaws
 mod SessionLaws
 mod GrammarLaws

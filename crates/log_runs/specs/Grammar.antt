@@ -1,8 +1,10 @@
 -- The lines of an archive behind the log: the one spelling of each, and the line that bytes spell.
-use Rattle.std.specs.Prelude.{ℕ, nat_eq, if◌then◌else◌, List, ◌++◌, drop, map, codes, Option, option_map}
+use Rattle.std.specs.Prelude.{◌≡◌, ◌⊎◌, ℕ, nat_eq, Bool, true, false, if◌then◌else◌, List, ◌++◌, drop, map, codes, Option, IsSome, option_map}
 use Rattle.std.specs.List.{starts_with}
-use Rattle.line_forms.specs.Forms.{Form, named, Table, Parts, of, ends, ◌▸◌, AreParts, text_of, value_in}
+use Rattle.line_forms.specs.Forms.{Form, named, Table, Parts, of, ends, ◌▸◌, AreParts, begins_as, text_of, value_in}
+use Rattle.line_forms.specs.Words.{words_of}
 use Rattle.line_forms.specs.Tokens.{number, hex}
+use Rattle.schedule_text.specs.Grammar.{begins_with_bytes}
 use Rattle.root_log.specs.Grammar.{IsLogCall, call_text, call_in}
 use Rattle.log_runs.specs.declared.archive_line.ArchiveAsk.{ArchiveAsk}
 use Rattle.log_runs.specs.declared.archive_line.ArchiveAskName.{ArchiveAskName}
@@ -50,3 +52,20 @@ unfoldable pub archive_line_in : List ℕ → Option ArchiveLine
 archive_line_in bytes =
     if starts_with nat_eq bytes event_mark then option_map ArchiveLine.Event (call_in (drop 6 bytes))
     else option_map ArchiveLine.Ask (value_in asks bytes)
+
+-- ---- memory
+
+-- what is asked so has bytes, which take memory to be read
+abbrev pub ask_has_bytes : ArchiveAskName → Bool
+ask_has_bytes ArchiveAskName.Put = true
+ask_has_bytes _ = false
+
+-- whether a line begins one that may have bytes
+abbrev pub archive_begins_with_bytes : List ℕ → Bool
+archive_begins_with_bytes bytes =
+    if starts_with nat_eq bytes event_mark then begins_with_bytes (drop 6 bytes)
+    else begins_as asks ask_has_bytes (words_of bytes)
+
+-- a line may take memory where it begins so, and where it is one, to be answered
+abbrev pub archive_takes_memory : List ℕ → Type 0
+archive_takes_memory bytes = (archive_begins_with_bytes bytes ≡ true) ⊎ IsSome (archive_line_in bytes)

@@ -1,8 +1,9 @@
 -- What is kept of a log in memory, by what its lines came to, and why a line isn't answered.
-use Rattle.std.specs.Prelude.{◌≡◌, ℕ, Bool, List, ◌++◌, Option, Some, None, Ok, Err}
+use Rattle.std.specs.Prelude.{◌≡◌, ℕ, Bool, true, false, List, ◌++◌, Option, Some, None, Ok, Err}
 use Rattle.streamed_lines.specs.declared.ending.Stop.TheVariants.{BadLine, Ends}
 use Rattle.streamed_lines.specs.declared.ending.Halt.{Halt}
 use Rattle.streamed_lines.specs.declared.ending.Halt.TheVariants.{Stops, Failed, NoMemory}
+use Rattle.root_log.specs.Grammar.{TakesMemory, begins_as_chain}
 use Rattle.log_runs.specs.Following.{LogRun, OrStop}
 
 -- ---- why a line isn't answered
@@ -25,11 +26,18 @@ Halts next (Stops stop) = next ≡ Err stop
 Halts next NoMemory = Unit {0}
 Halts next Failed = ⊥
 
--- nothing fails but for want of memory
-abbrev pub IsNoFailure : Halt (List ℕ) → Type 0
-IsNoFailure (Stops stop) = Unit {0}
-IsNoFailure NoMemory = Unit {0}
-IsNoFailure Failed = ⊥
+-- nothing fails but for want of memory, and that where this holds
+abbrev pub FailsOnly : Type 0 → Halt (List ℕ) → Type 0
+FailsOnly Takes (Stops stop) = Unit {0}
+FailsOnly Takes NoMemory = Takes
+FailsOnly Takes Failed = ⊥
+
+-- the next line may take memory: the first one where it begins as a chain, another one of the log as the log's grammar
+-- says, and one behind the log where this holds of what lines came to
+abbrev pub MayTakeMemory : {A : Type 0} → (A → List ℕ → Type 0) → Option A → Bool → List ℕ → Type 0
+MayTakeMemory Behind None is_over line = begins_as_chain line ≡ true
+MayTakeMemory Behind (Some at) false line = TakesMemory line
+MayTakeMemory Behind (Some at) true line = Behind at line
 
 -- ---- what is kept
 

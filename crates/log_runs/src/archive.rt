@@ -31,6 +31,7 @@ struct Archivist<H> {
 impl<H: Hash32 + Copy> Follower for Archivist<H> {
     ghost use Rattle.proof_archive.specs.Laws.{Holding};
     ghost use Rattle.log_runs.specs.Archiving.{archiving};
+    ghost use Rattle.log_runs.specs.Grammar.{archive_takes_memory};
     ghost use Rattle.log_runs.specs.Holds.{Holds};
 
     type Kept = Archive<H>;
@@ -40,6 +41,8 @@ impl<H: Hash32 + Copy> Follower for Archivist<H> {
     ghost following = { λ archivist. archiving (H.digest_of archivist.h) };
 
     ghost is_at = { λ archivist. Holds archivist.h };
+
+    ghost takes_memory = { λ _. archive_takes_memory };
 
     fn begin(&self, alloc: Global, log: RootLog) -> Archive<H> {
         Archive::make(alloc, log.tag(), log.operator(), log.most_blocks(), self.h)

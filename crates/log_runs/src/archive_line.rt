@@ -1,6 +1,7 @@
-ghost use Rattle.std.specs.Prelude.{◌≡◌, Some, None, Err, IfOk, IfErr};
-ghost use Rattle.line_forms.specs.Forms.{takes, value_in};
-ghost use Rattle.log_runs.specs.Grammar.{ask_form, asks, archive_line_in};
+ghost use Rattle.std.specs.Prelude.{◌≡◌, true, Some, None, Err, IfOk, IfErr};
+ghost use Rattle.line_forms.specs.Forms.{takes, begins_as, value_in};
+ghost use Rattle.line_forms.specs.Words.{words_of};
+ghost use Rattle.log_runs.specs.Grammar.{ask_form, asks, ask_has_bytes, archive_begins_with_bytes, archive_line_in};
 ghost use Rattle.log_runs.specs.Kept.{SpellsNone};
 
 use super::reading::read_call;
@@ -71,6 +72,7 @@ fn ask_of(
 ) -> Result<ArchiveAsk, LineRefusal>
     ensures found { IfOk result (λ ask. takes (ask_form name) words.old ≡ Some (ask, words.new)) }
     ensures bad { result ≡ Err LineRefusal.BadLine → takes (ask_form name) words.old ≡ None }
+    ensures memory { result ≡ Err LineRefusal.NoMemory → ask_has_bytes name ≡ true }
 {
     match name {
         ArchiveAskName::Put => Ok(ArchiveAsk::Put {
@@ -96,6 +98,7 @@ fn ask_of(
 fn read_ask(alloc: Global, line: &[u8]) -> Result<ArchiveAsk, LineRefusal>
     ensures found { IfOk result (λ ask. value_in asks line.now ≡ Some ask) }
     ensures bad { result ≡ Err LineRefusal.BadLine → value_in asks line.now ≡ None }
+    ensures memory { result ≡ Err LineRefusal.NoMemory → begins_as asks ask_has_bytes (words_of line.now) ≡ true }
 {
     let mut words = Words::of(line);
     let word = words.next().ok_or(LineRefusal::BadLine)?;
@@ -110,6 +113,7 @@ fn read_ask(alloc: Global, line: &[u8]) -> Result<ArchiveAsk, LineRefusal>
 pub fn read_archive_line(alloc: Global, line: &[u8]) -> Result<ArchiveLine, Halt<Bytes>>
     ensures found { IfOk result (λ it. archive_line_in line.now ≡ Some it) }
     ensures bad { IfErr result (SpellsNone (archive_line_in line.now)) }
+    ensures memory { result ≡ Err Halt.NoMemory → archive_begins_with_bytes line.now ≡ true }
 {
     if line.starts_with(EVENT) {
         let call = read_call(alloc, &line[6..])?;

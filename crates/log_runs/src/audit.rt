@@ -46,7 +46,8 @@ fn push_convicted(out: &mut Vec<u8>, conviction: &Conviction) -> Result<(), NoMe
 }
 
 impl<H: Hash32 + Drop> Follower for Auditor<H> {
-    ghost use Rattle.std.specs.Prelude.{◌≡◌};
+    ghost use Rattle.std.specs.Prelude.{◌≡◌, false, IsSome};
+    ghost use Rattle.plasma_base.specs.HexText.{hex_in};
     ghost use Rattle.log_runs.specs.Auditing.{AuditAt, auditing};
     ghost use Rattle.log_runs.specs.Audits.{audit_at};
 
@@ -57,6 +58,8 @@ impl<H: Hash32 + Drop> Follower for Auditor<H> {
     ghost following = { λ auditor. auditing (H.digest_of auditor.h) auditor.key auditor.receipt };
 
     ghost is_at = { λ _ kept at. audit_at kept ≡ at };
+
+    ghost takes_memory = { λ at line. (at.is_answered ≡ false) × IsSome (hex_in line) };
 
     fn begin(&self, _alloc: Global, log: RootLog) -> AuditLog {
         AuditLog {

@@ -1,4 +1,5 @@
-ghost use Rattle.std.specs.Prelude.{◌≡◌, ℕ, List, OnOk, OnErr, IfErr};
+ghost use Rattle.std.specs.Prelude.{◌≡◌, ℕ, List, Err, OnOk, OnErr, IfErr};
+ghost use Rattle.streamed_lines.specs.declared.ending.Halt.{Halt};
 ghost use Rattle.log_runs.specs.Following.{Following};
 ghost use Rattle.log_runs.specs.Kept.{Halts, IsDone};
 
@@ -20,6 +21,9 @@ pub trait Follower {
 
     /// It is kept of lines that came to this.
     ghost is_at: { Self → Self.Kept → At → Type 0 };
+
+    /// Whether a line behind the log may take memory where lines came to this.
+    ghost takes_memory: { At → List ℕ → Type 0 };
 
     /// Begins with a chain, by its log without calls.
     fn begin(&self, alloc: Global, log: RootLog) -> Self::Kept
@@ -43,6 +47,8 @@ pub trait Follower {
             text.old.items text.new.items kept.new) }
         ensures halts { (at : At) → is_at self.now kept.old at
             → IfErr result (Halts ((following self.now).command at line.now)) }
+        ensures memory { (at : At) → is_at self.now kept.old at → result ≡ Err Halt.NoMemory
+            → takes_memory at line.now }
         ensures untold { OnErr result (text.new.items ≡ text.old.items) };
 
     /// Whether the input may end behind the log here.

@@ -36,7 +36,7 @@ impl<F: Follower> LogSession<F> {
 
 impl<F: Follower> Answerer for LogSession<F> {
     ghost use Rattle.log_runs.specs.Following.{LogRun, log_rules};
-    ghost use Rattle.log_runs.specs.Kept.{IsNoFailure, IsRun};
+    ghost use Rattle.log_runs.specs.Kept.{FailsOnly, MayTakeMemory, IsRun};
 
     type Cause = Bytes;
 
@@ -46,7 +46,7 @@ impl<F: Follower> Answerer for LogSession<F> {
 
     ghost ran = { λ session. IsRun (F.is_at session.follower) session.kept session.is_over };
 
-    ghost halted = { λ _ _ _ halt. IsNoFailure halt };
+    ghost halted = { λ _ run line. FailsOnly (MayTakeMemory F.takes_memory run.at run.is_over line) };
 
     ghost ready = { λ _. Unit {0} };
 

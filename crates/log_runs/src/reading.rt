@@ -1,6 +1,7 @@
-ghost use Rattle.std.specs.Prelude.{◌≡◌, Some, Err, IfOk, IfErr, IsSome};
+ghost use Rattle.std.specs.Prelude.{◌≡◌, true, Some, Err, IfOk, IfErr, IsSome};
 ghost use Rattle.plasma_base.specs.HexText.{hex_in};
-ghost use Rattle.root_log.specs.Grammar.{chain_in, call_in};
+ghost use Rattle.schedule_text.specs.Grammar.{begins_with_bytes};
+ghost use Rattle.root_log.specs.Grammar.{chain_in, call_in, begins_as_chain};
 ghost use Rattle.log_runs.specs.Kept.{SpellsNone};
 
 use plasma_base::{Bytes, HexRefusal, take_hex};
@@ -26,6 +27,7 @@ fn halt_of(refusal: LogRefusal) -> Halt<Bytes>
 pub fn read_first(alloc: Global, line: &[u8]) -> Result<RootLog, Halt<Bytes>>
     ensures found { IfOk result (λ log. chain_in line.now ≡ Some log) }
     ensures bad { IfErr result (SpellsNone (chain_in line.now)) }
+    ensures memory { result ≡ Err Halt.NoMemory → begins_as_chain line.now ≡ true }
 {
     root_log::read_chain(alloc, line).map_err(halt_of)
 }
@@ -34,6 +36,7 @@ pub fn read_first(alloc: Global, line: &[u8]) -> Result<RootLog, Halt<Bytes>>
 pub fn read_call(alloc: Global, line: &[u8]) -> Result<RootCall, Halt<Bytes>>
     ensures found { IfOk result (λ call. call_in line.now ≡ Some call) }
     ensures bad { IfErr result (SpellsNone (call_in line.now)) }
+    ensures memory { result ≡ Err Halt.NoMemory → begins_with_bytes line.now ≡ true }
 {
     root_log::read_call(alloc, line).map_err(halt_of)
 }

@@ -1,52 +1,17 @@
 -- A run of a node over a good input is done, unless something fails.
-use Rattle.std.proofs.Common.{◌≡◌, ◌⊎◌, ℕ, Bool, true, false, List, Option, Some, None, Result, Ok, Err, inl, inr, refl, sym, ap, ◌∙◌, subst}
-use Rattle.crash_disk.specs.Disk.{Step, History, FaultPlan, content, asks_length, with_call}
-use Rattle.std.specs.Prelude.{option_map}
+use Rattle.node_runs.proofs.Words.{◌≡◌, ◌⊎◌, ℕ, Bool, true, false, List, Option, Some, None, Result, Ok, Err, inl, inr, refl, sym, ap, ◌∙◌, subst, Step, History, FaultPlan, content, asks_length, with_call, option_map, RootCall, JournalRefusal, JournalPlace, InitRefusal, InitMade, InitFault, InitNoMemory, is_taken, journal_steps, init_steps, Inits, RefusesPair, BeginsPair, NotesState, Opened, RefusesRole, operator_kinds, operator_is, WalletState, notes_part, OpensWallet, RefusesWallet, IsUnbound, Outcome, NotesAt, with_note, Parts, alone, both, of_each, with_effect, NodeAt, keeping, records_at, Commands, left_with, outcome_at, node_does, records_do, watcher_commands, operator_commands, desk_commands, wallet_commands, wallet_parts, SessionState, begun, ok-same, Ending, Complete, ReadFaultEnding, Rules, Stream, stream_of, Status, Done, ReadFaultStatus, WriteFault, DeviceFault, NoMemory, IsDoneUnlessFailed, EndsAs, ends-done, status_of, session_output, fault_output, refused_output, init_output, opened_at, Outside, BrokenAt, RunsSession, node_found, NodeSession, RunsWatcher, RunsWallet, desk_records_in, RefusesDesk, RunsBehind, RunsOperator, InitsNotes, InitsPair}
 use Rattle.std.proofs.lemmas.Bool.{true≢false}
-use Rattle.plasma_tx.specs.declared.call.RootCall.{RootCall}
-use Rattle.gate_journal.specs.declared.refusal.JournalRefusal.{JournalRefusal}
-use Rattle.gate_journal.specs.declared.refusal.JournalRefusal.TheVariants.{AlreadyMade as JournalMade, NotJournal as JournalPlace, DeviceFault as JournalFault, Closed as JournalClosed, RecordTooLong as JournalLong, NoMemory as JournalNoMemory}
-use Rattle.gate_journal.specs.declared.refusal.InitRefusal.{InitRefusal}
-use Rattle.gate_journal.specs.declared.refusal.InitRefusal.TheVariants.{AlreadyMade as InitMade, DeviceFault as InitFault, NoMemory as InitNoMemory}
-use Rattle.node_journal.specs.Begin.{is_taken, journal_steps, init_steps, Inits, RefusesPair, BeginsPair}
-use Rattle.node_journal.specs.Notes.{NotesState, Opened, RefusesRole}
 use Rattle.node_journal.specs.Role.{role_in}
 use Rattle.leaf_journal.specs.Records.{leaf_records_in_of}
 use Rattle.node_rules.specs.Watcher.{watcher_kinds}
 use Rattle.node_rules.specs.Wallet.{WalletRecords}
 use Rattle.node_rules.specs.WalletRecords.{wallet_kinds, is_body, leaves_in, notes_of, are_bound_notes}
 use Rattle.node_rules.specs.WalletOpening.{leaves_of, are_bound}
-use Rattle.operator_rules.specs.Records.{operator_kinds, who_is as operator_is}
 use Rattle.wallet_core.specs.declared.notes.LeafRecord.{LeafRecord}
-use Rattle.wallet_node.specs.State.{WalletState, notes_part}
-use Rattle.wallet_node.specs.Opening.{OpensWallet, RefusesWallet, IsUnbound}
 use Rattle.node_replies.specs.Orders.{with_record}
-use Rattle.node_answers.specs.Answers.{Outcome}
-use Rattle.node_roles.specs.Notes.{NotesAt, with_note}
-use Rattle.node_journal.specs.Parts.{Parts, alone, both, of_each}
-use Rattle.node_roles.specs.Parts.{with_effect}
-use Rattle.node_roles.specs.Nodes.{NodeAt, keeping, records_at, Commands, left_with, outcome_at, node_does, records_do}
-use Rattle.node_roles.specs.Roles.{watcher_commands, operator_commands, desk_commands, wallet_commands, wallet_parts}
-use Rattle.node_sessions.specs.Sessions.{SessionState, begun}
 use Rattle.node_sessions.proofs.CompleteLaws.{done-are_answered, keep-by_part}
-use Rattle.node_sessions.proofs.StayLaws.{ok-same}
-use Rattle.streamed_lines.specs.declared.ending.Ending.{Ending}
-use Rattle.streamed_lines.specs.declared.ending.Ending.TheVariants.{Complete, ReadFault as ReadFaultEnding}
 use Rattle.streamed_lines.specs.Lines.{lines_in}
-use Rattle.streamed_lines.specs.Streams.{Rules, Stream, stream_of}
 use Rattle.streamed_lines.proofs.CompleteLaws.{reads-well}
-use Rattle.run_endings.specs.declared.status.Status.{Status}
-use Rattle.run_endings.specs.declared.status.Status.TheVariants.{Done, Refused, Usage, BadLine as BadLineStatus, ReadFault as ReadFaultStatus, WriteFault, DeviceFault, NoMemory, TooLong as TooLongStatus, NotJournal, AlreadyMade}
-use Rattle.run_endings.specs.Statuses.{IsDoneUnlessFailed}
-use Rattle.run_endings.specs.Outputs.{EndsAs}
-use Rattle.run_endings.proofs.EndingLaws.{ends-done}
-use Rattle.run_endings.specs.Endings.{status_of, session_output, fault_output}
-use Rattle.node_runs.specs.Endings.{refused_output, init_output}
-use Rattle.node_runs.specs.Disks.{opened_at}
-use Rattle.node_runs.specs.Sessions.{Outside, BrokenAt, RunsSession}
-use Rattle.node_runs.specs.Runs.{node_found, NodeSession, RunsWatcher, RunsWallet}
-use Rattle.node_runs.specs.Operators.{desk_records_in, RefusesDesk, RunsBehind, RunsOperator}
-use Rattle.node_runs.specs.Inits.{InitsNotes, InitsPair}
 use Rattle.node_runs.specs.Complete.{KeepNodeRules, WatcherComplete, KeepOperatorRules, OperatorComplete, WalletComplete, InitComplete, InitBothComplete}
 
 -- ---- a command does to a node what it does to its records
@@ -101,12 +66,7 @@ broken-may command_in Left Unanswered NoMemory ended bytes stream is = tt
 broken-may command_in Left Unanswered Done ended bytes stream never = tt
 broken-may command_in Left Unanswered ReadFaultStatus ended bytes stream never = tt
 broken-may command_in Left Unanswered DeviceFault ended bytes stream never = tt
-broken-may command_in Left Unanswered Refused ended bytes stream never = never
-broken-may command_in Left Unanswered Usage ended bytes stream never = never
-broken-may command_in Left Unanswered BadLineStatus ended bytes stream never = never
-broken-may command_in Left Unanswered TooLongStatus ended bytes stream never = never
-broken-may command_in Left Unanswered NotJournal ended bytes stream never = never
-broken-may command_in Left Unanswered AlreadyMade ended bytes stream never = never
+broken-may command_in Left Unanswered status ended bytes stream never = never
 
 -- a session whose whole input is complete
 session-done : {A L : Type 0} (rules : Rules (SessionState A) (List ℕ)) (command_in : List ℕ → Option L) (found : A)
@@ -131,15 +91,7 @@ refused-done : (why : JournalRefusal) (status : Status) (before after : Option (
     → ((place : ℕ) → why ≡ JournalPlace place → ⊥) → EndsAs (refused_output why) status before after ⊥
     → IsDoneUnlessFailed status
 refused-done (JournalPlace place) status before after own ends = absurd (own place refl)
-refused-done JournalFault status before after own ends = ends-done (refused_output JournalFault) status _ _ _ tt ends
-refused-done (JournalMade count) status before after own ends =
-    ends-done (refused_output (JournalMade count)) status _ _ _ tt ends
-refused-done (JournalLong count) status before after own ends =
-    ends-done (refused_output (JournalLong count)) status _ _ _ tt ends
-refused-done JournalClosed status before after own ends =
-    ends-done (refused_output JournalClosed) status _ _ _ tt ends
-refused-done JournalNoMemory status before after own ends =
-    ends-done (refused_output JournalNoMemory) status _ _ _ tt ends
+refused-done why status before after own ends = ends-done (refused_output why) status _ _ _ tt ends
 
 -- what an image spells it doesn't not spell
 ok-not : {T : Type 0} (result : Result T ℕ) (x : T) (place : ℕ) → result ≡ Ok x → result ≡ Err place → ⊥

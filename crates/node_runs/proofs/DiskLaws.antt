@@ -1,21 +1,7 @@
 -- The disks of a node that is somewhere, as they are handed back.
-use Rattle.std.proofs.Common.{◌≡◌, ◌⊎◌, ℕ, false, List, Option, Some, None, option_map, refl, subst, inl, inr}
-use Rattle.crash_disk.specs.Disk.{History, FaultPlan}
+use Rattle.node_runs.proofs.Words.{◌≡◌, ◌⊎◌, ℕ, false, List, Option, Some, None, option_map, refl, subst, inl, inr, History, FaultPlan, RootCall, IsSettled, NotesState, Stop, Outcome, NotesAt, with_note, StaysAt, IsNotesAt, FailedAt, Parts, of_each, OfLeaves, with_effect, PartFails, NodeAt, Commands, outcome_at, IsNodeAt, StoppedAt, Status, Keeps, MayKeep, opened_at, KeepsNode, NodeFailed, Outside, RunsSession, node_rules, node_found, NodeSession}
 use Rattle.crash_disk.specs.Calls.{WhereTold}
-use Rattle.plasma_tx.specs.declared.call.RootCall.{RootCall}
-use Rattle.gate_journal.specs.Journal.{IsSettled}
-use Rattle.node_journal.specs.Notes.{NotesState}
-use Rattle.node_journal.specs.declared.stop.Stop.{Stop}
 use Rattle.node_journal.specs.declared.stop.Stop.TheVariants.{NoMemory, DeviceFault}
-use Rattle.node_answers.specs.Answers.{Outcome}
-use Rattle.node_roles.specs.Notes.{NotesAt, with_note, StaysAt, IsNotesAt, FailedAt}
-use Rattle.node_journal.specs.Parts.{Parts, of_each, OfLeaves}
-use Rattle.node_roles.specs.Parts.{with_effect, PartFails}
-use Rattle.node_roles.specs.Nodes.{NodeAt, Commands, outcome_at, IsNodeAt, StoppedAt}
-use Rattle.run_endings.specs.declared.status.Status.{Status}
-use Rattle.node_runs.specs.Disks.{Keeps, MayKeep, opened_at, KeepsNode, NodeFailed}
-use Rattle.node_runs.specs.Sessions.{Outside, RunsSession}
-use Rattle.node_runs.specs.Runs.{node_rules, node_found, NodeSession}
 use Rattle.node_runs.proofs.SessionLaws.{in-words}
 
 -- the disks of a node

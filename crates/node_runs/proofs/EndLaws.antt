@@ -1,19 +1,9 @@
 -- How a run ends whose text was put behind one that stands there, and what that says of its reading.
-use Rattle.std.proofs.Common.{◌≡◌, ℕ, inl, Bool, true, false, List, [], ◌++◌, Option, Ok, refl, sym, ap, ◌∙◌, subst, append_assoc}
-use Rattle.std.specs.Prelude.{◌≢◌}
-use Rattle.streamed_lines.specs.declared.ending.Ending.{Ending}
-use Rattle.streamed_lines.specs.declared.ending.Ending.TheVariants.{Complete, BadLine, ReadFault, TooLong, Ended}
+use Rattle.node_runs.proofs.Words.{◌≡◌, ℕ, inl, Bool, true, false, List, [], ◌++◌, Option, Ok, refl, sym, ap, ◌∙◌, subst, append_assoc, ◌≢◌, Ending, ReadFault, is_read_fault, Status, ReadFaultStatus, WriteFault, NoMemory, Output, Stops, EndsAs, status_of_refusal, status_of, fault_output, ends-stopped}
 use Rattle.streamed_lines.specs.Outside.{Wrote, WroteFront}
-use Rattle.streamed_lines.specs.Reading.{is_read_fault}
 use Rattle.streamed_lines.proofs.OutsideLaws.{wrote-more, front-whole}
 use Rattle.plasma_outside.specs.declared.sink.SinkRefusal.{SinkRefusal}
-use Rattle.run_endings.specs.declared.status.Status.{Status}
-use Rattle.run_endings.specs.declared.status.Status.TheVariants.{Done, Refused, Usage, BadLine as BadLineStatus, ReadFault as ReadFaultStatus, WriteFault, DeviceFault, NoMemory, TooLong as TooLongStatus, NotJournal, AlreadyMade}
-use Rattle.run_endings.specs.Outputs.{Output, Stops, EndsAs}
-use Rattle.run_endings.specs.Statuses.{status_of_refusal}
-use Rattle.run_endings.specs.Endings.{status_of, fault_output}
 use Rattle.run_endings.specs.Texts.{device_fault_text}
-use Rattle.run_endings.proofs.EndingLaws.{ends-stopped}
 use Rattle.run_endings.proofs.PutLaws.{front-more}
 
 -- a run whose answers were partly put before
@@ -38,14 +28,7 @@ module _ (a b c : Option (List ℕ)) (put text last : List ℕ) (failed : Type 0
   ends-more output WriteFault why ends = stops-more output why ends
   ends-more output NoMemory why ends = stops-more output why ends
   ends-more output ReadFaultStatus why ends = ((ends.0.0, whole-more ends.0.1), why ends.0.0)
-  ends-more output Done why ends = (ends.0, whole-more ends.1)
-  ends-more output Refused why ends = (ends.0, whole-more ends.1)
-  ends-more output Usage why ends = (ends.0, whole-more ends.1)
-  ends-more output BadLineStatus why ends = (ends.0, whole-more ends.1)
-  ends-more output DeviceFault why ends = (ends.0, whole-more ends.1)
-  ends-more output TooLongStatus why ends = (ends.0, whole-more ends.1)
-  ends-more output NotJournal why ends = (ends.0, whole-more ends.1)
-  ends-more output AlreadyMade why ends = (ends.0, whole-more ends.1)
+  ends-more output status why ends = (ends.0, whole-more ends.1)
 
 -- a run that met a device fault and wrote a beginning of its answers
 pub fault-stopped : (refusal : SinkRefusal) (answers : List ℕ) (before after : Option (List ℕ)) (failed : Type 0)
@@ -72,21 +55,7 @@ fault-behind a b c answers failed WriteFault first ends =
 fault-behind a b c answers failed NoMemory first ends =
     record { front = front-more a b c answers device_fault_text first ends.front; fault = λ wrong. absurd (cc) }
 fault-behind a b c answers failed ReadFaultStatus first ends = absurd ends.1
-fault-behind a b c answers failed Done first ends =
-    (ends.0, wrote-more a b c answers device_fault_text first ends.1)
-fault-behind a b c answers failed Refused first ends =
-    (ends.0, wrote-more a b c answers device_fault_text first ends.1)
-fault-behind a b c answers failed Usage first ends =
-    (ends.0, wrote-more a b c answers device_fault_text first ends.1)
-fault-behind a b c answers failed BadLineStatus first ends =
-    (ends.0, wrote-more a b c answers device_fault_text first ends.1)
-fault-behind a b c answers failed DeviceFault first ends =
-    (ends.0, wrote-more a b c answers device_fault_text first ends.1)
-fault-behind a b c answers failed TooLongStatus first ends =
-    (ends.0, wrote-more a b c answers device_fault_text first ends.1)
-fault-behind a b c answers failed NotJournal first ends =
-    (ends.0, wrote-more a b c answers device_fault_text first ends.1)
-fault-behind a b c answers failed AlreadyMade first ends =
+fault-behind a b c answers failed status first ends =
     (ends.0, wrote-more a b c answers device_fault_text first ends.1)
 
 -- whatever a run ends as, it wrote a beginning of its text behind what was there
@@ -96,32 +65,19 @@ module _ (output : Output) (before after : Option (List ℕ)) (failed : Type 0) 
   ends-front WriteFault ends = ends.front
   ends-front NoMemory ends = ends.front
   ends-front ReadFaultStatus ends = front-whole before after (output.answers ++ output.last) ends.0.1
-  ends-front Done ends = front-whole before after (output.answers ++ output.last) ends.1
-  ends-front Refused ends = front-whole before after (output.answers ++ output.last) ends.1
-  ends-front Usage ends = front-whole before after (output.answers ++ output.last) ends.1
-  ends-front BadLineStatus ends = front-whole before after (output.answers ++ output.last) ends.1
-  ends-front DeviceFault ends = front-whole before after (output.answers ++ output.last) ends.1
-  ends-front TooLongStatus ends = front-whole before after (output.answers ++ output.last) ends.1
-  ends-front NotJournal ends = front-whole before after (output.answers ++ output.last) ends.1
-  ends-front AlreadyMade ends = front-whole before after (output.answers ++ output.last) ends.1
+  ends-front status ends = front-whole before after (output.answers ++ output.last) ends.1
 
 -- the reading of a session, by what ended it
 module _ (Reads : Bool → Type 0) where
   pub failed-of : (ending : Ending (List ℕ)) → Reads (is_read_fault (Ok ending)) → status_of ending ≡ ReadFaultStatus
       → Reads true
-  failed-of Complete reads wrong = absurd (cc)
-  failed-of (BadLine n) reads wrong = absurd (cc)
   failed-of ReadFault reads is = reads
-  failed-of (TooLong n) reads wrong = absurd (cc)
-  failed-of (Ended n cause) reads wrong = absurd (cc)
+  failed-of ending reads wrong = absurd (cc)
 
   unfailed-of : (ending : Ending (List ℕ)) → Reads (is_read_fault (Ok ending)) → status_of ending ≢ ReadFaultStatus
       → Reads false
-  unfailed-of Complete reads no_fault = reads
-  unfailed-of (BadLine n) reads no_fault = reads
   unfailed-of ReadFault reads no_fault = absurd (no_fault refl)
-  unfailed-of (TooLong n) reads no_fault = reads
-  unfailed-of (Ended n cause) reads no_fault = reads
+  unfailed-of ending reads no_fault = reads
 
   differs : (ending : Ending (List ℕ)) (status : Status) → status_of ending ≡ status → status ≢ ReadFaultStatus
       → status_of ending ≢ ReadFaultStatus

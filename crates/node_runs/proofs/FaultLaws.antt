@@ -1,52 +1,13 @@
 -- The faults that a run's disks met, by its status.
-use Rattle.std.proofs.Common.{◌≡◌, ℕ, Bool, option_map, true, false, List, [], Option, Some, None, Result, Ok, Err, inl, inr, refl, sym, ap, ◌∙◌, subst}
-use Rattle.std.specs.Prelude.{unwrap_or}
+use Rattle.node_runs.proofs.Words.{◌≡◌, ℕ, Bool, option_map, true, false, List, [], Option, Some, None, Result, Ok, Err, inl, inr, refl, sym, ap, ◌∙◌, subst, unwrap_or, History, FaultPlan, is_device_fault, InitRefusal, InitMade, InitFault, InitNoMemory, JournalRefusal, JournalPlace, JournalFault, JournalNoMemory, RootCall, BeginsPair, is_init_fault, NotesState, Ending, Complete, stream_of, begun, calls_of, session_rules, ok-same, session-keeps, run-keeps, Outcome, NotesAt, with_note, Parts, alone, both, OfLeaves, with_effect, PartFails, NodeAt, Commands, left_with, outcome_at, node_does, watcher_commands, operator_commands, desk_commands, wallet_commands, operator_is, notes_part, leaves_part, Status, Done, Refused, Usage, BadLineStatus, ReadFaultStatus, WriteFault, DeviceFault, NoMemory, TooLongStatus, NotJournal, AlreadyMade, FaultsBy, EndsAs, IsUnbound, RefusesWallet, status_of, session_output, fault_output, refused_output, init_output, Keeps, MayKeep, node_opened, KeepsNode, NodeFailed, Counts, CountsEither, InitsNotes, InitsPair, NodeSession, RunsWatcher, RunsWallet, RefusesDesk, RunsBehind, RunsOperator, Outside, RunsSession}
 use Rattle.plasma_base.specs.Causes.{faults_after}
-use Rattle.crash_disk.specs.Disk.{History, FaultPlan}
-use Rattle.gate_journal.specs.Journal.{is_device_fault}
-use Rattle.gate_journal.specs.declared.refusal.InitRefusal.{InitRefusal}
-use Rattle.gate_journal.specs.declared.refusal.InitRefusal.TheVariants.{AlreadyMade as InitMade, DeviceFault as InitFault, NoMemory as InitNoMemory}
-use Rattle.gate_journal.specs.declared.refusal.JournalRefusal.{JournalRefusal}
-use Rattle.gate_journal.specs.declared.refusal.JournalRefusal.TheVariants.{AlreadyMade as JournalMade, NotJournal as JournalPlace, DeviceFault as JournalFault, Closed as JournalClosed, RecordTooLong as JournalLong, NoMemory as JournalNoMemory}
-use Rattle.plasma_tx.specs.declared.call.RootCall.{RootCall}
-use Rattle.node_journal.specs.Begin.{BeginsPair, is_init_fault}
-use Rattle.node_journal.specs.Notes.{NotesState}
-use Rattle.streamed_lines.specs.declared.ending.Ending.{Ending}
-use Rattle.streamed_lines.specs.declared.ending.Ending.TheVariants.{Complete, BadLine, ReadFault, TooLong, Ended}
-use Rattle.streamed_lines.specs.Streams.{stream_of}
-use Rattle.node_sessions.specs.Sessions.{begun, calls_of, session_rules}
-use Rattle.node_sessions.proofs.StayLaws.{ok-same, session-keeps, run-keeps}
-use Rattle.node_answers.specs.Answers.{Outcome}
-use Rattle.node_roles.specs.Notes.{NotesAt, with_note}
-use Rattle.node_journal.specs.Parts.{Parts, alone, both, OfLeaves}
-use Rattle.node_roles.specs.Parts.{with_effect, PartFails}
-use Rattle.node_roles.specs.Nodes.{NodeAt, Commands, left_with, outcome_at, node_does}
-use Rattle.node_roles.specs.Roles.{watcher_commands, operator_commands, desk_commands, wallet_commands}
-use Rattle.operator_rules.specs.Records.{who_is as operator_is}
-use Rattle.wallet_node.specs.State.{notes_part, leaves_part}
-use Rattle.run_endings.specs.declared.status.Status.{Status}
-use Rattle.run_endings.specs.declared.status.Status.TheVariants.{Done, Refused, Usage, BadLine as BadLineStatus, ReadFault as ReadFaultStatus, WriteFault, DeviceFault, NoMemory, TooLong as TooLongStatus, NotJournal, AlreadyMade}
-use Rattle.run_endings.specs.Statuses.{FaultsBy}
-use Rattle.run_endings.specs.Outputs.{Output, EndsAs}
-use Rattle.wallet_node.specs.Opening.{IsUnbound, RefusesWallet}
-use Rattle.run_endings.specs.Endings.{status_of, session_output, fault_output}
-use Rattle.node_runs.specs.Endings.{refused_output, init_output}
-use Rattle.node_runs.specs.Disks.{Keeps, MayKeep, node_opened, KeepsNode, NodeFailed}
-use Rattle.run_endings.specs.Faults.{Counts, CountsEither}
 use Rattle.run_endings.proofs.FaultLaws.{other-status, none-met, by-more, one-met}
-use Rattle.node_runs.specs.Inits.{InitsNotes, InitsPair}
-use Rattle.node_runs.specs.Runs.{NodeSession, RunsWatcher, RunsWallet}
-use Rattle.node_runs.specs.Operators.{RefusesDesk, RunsBehind, RunsOperator}
-use Rattle.node_runs.specs.Sessions.{Outside, RunsSession}
 
 -- ---- by the output
 
 session-other : (ending : Ending (List ℕ)) → status_of ending ≡ DeviceFault → ⊥
 session-other Complete is = cc
-session-other (BadLine n) is = cc
-session-other ReadFault is = cc
-session-other (TooLong n) is = cc
-session-other (Ended n cause) is = cc
+session-other ending is = cc
 
 -- ---- a session
 
@@ -99,16 +60,8 @@ module _ {A L : Type 0} (tag : List ℕ) (command_in : List ℕ → Option L)
 refused-counts : (Met : Bool → Type 0) (why : JournalRefusal) (status : Status) (before after : Option (List ℕ))
     → EndsAs (refused_output why) status before after ⊥ → Met (is_device_fault why) → FaultsBy status Met
 refused-counts Met JournalFault status before after ends met = one-met Met (fault_output []) status _ _ _ refl ends met
-refused-counts Met (JournalPlace place) status before after ends met =
-    none-met Met status (other-status (refused_output (JournalPlace place)) status _ _ _ (λ is. cc (is)) ends) met
-refused-counts Met (JournalMade count) status before after ends met =
-    none-met Met status (other-status (refused_output (JournalMade count)) status _ _ _ (λ is. cc (is)) ends) met
-refused-counts Met (JournalLong count) status before after ends met =
-    none-met Met status (other-status (refused_output (JournalLong count)) status _ _ _ (λ is. cc (is)) ends) met
-refused-counts Met JournalClosed status before after ends met =
-    none-met Met status (other-status (refused_output JournalClosed) status _ _ _ (λ is. cc (is)) ends) met
-refused-counts Met JournalNoMemory status before after ends met =
-    none-met Met status (other-status (refused_output JournalNoMemory) status _ _ _ (λ is. cc (is)) ends) met
+refused-counts Met why status before after ends met =
+    none-met Met status (other-status (refused_output why) status _ _ _ (λ is. cc (is)) ends) met
 
 init-counts : (Met : Bool → Type 0) (answer : Result Unit InitRefusal) (status : Status)
     (before after : Option (List ℕ)) → EndsAs (init_output answer) status before after ⊥ → Met (is_init_fault answer)
@@ -325,10 +278,7 @@ module _ {D : Type 0} (told : D → Option History) (plan : D → Option FaultPl
         → IsUnbound dig bodies records why → is_device_fault why ≡ false
     unbound-none bodies records (JournalPlace place) is = refl
     unbound-none bodies records JournalNoMemory is = refl
-    unbound-none bodies records JournalFault never = absurd never
-    unbound-none bodies records (JournalMade count) never = absurd never
-    unbound-none bodies records (JournalLong count) never = absurd never
-    unbound-none bodies records JournalClosed never = absurd never
+    unbound-none bodies records why never = absurd never
 
     pub refused-met : (why : JournalRefusal)
         → RefusesWallet told plan faults dig notes leaves why new_notes new_leaves

@@ -5,3 +5,4 @@ pub mod FaultLaws
 pub mod QuietLaws
 pub mod CompleteLaws
 mod OperatorLaws
+mod Words

@@ -1,10 +1,5 @@
 -- What an operator's run does behind its opened notes, by whether its identity has a key.
-use Rattle.std.proofs.Common.{◌≡◌, ℕ, Bool, List, Option, subst}
-use Rattle.crash_disk.specs.Disk.{History, FaultPlan}
-use Rattle.node_journal.specs.Notes.{NotesState}
-use Rattle.run_endings.specs.declared.status.Status.{Status}
-use Rattle.node_runs.specs.Sessions.{Outside}
-use Rattle.node_runs.specs.Operators.{RunsBehind}
+use Rattle.node_runs.proofs.Words.{◌≡◌, ℕ, Bool, List, Option, subst, History, FaultPlan, NotesState, Status, Outside, RunsBehind}
 use Rattle.node_runs.specs.Prompt.{PromptlyBehind}
 
 -- over disks, under a digest, and by a seed that is this one, or none

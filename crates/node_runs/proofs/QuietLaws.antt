@@ -1,49 +1,18 @@
 -- A run that ends for want of memory over a sink that takes none met no fault.
-use Rattle.std.proofs.Common.{◌≡◌, ℕ, Bool, true, false, List, Option, Result, Ok, Err, is_ok, inl, inr, refl, ap, ◌∙◌, subst}
-use Rattle.crash_disk.specs.Disk.{History, FaultPlan}
-use Rattle.gate_journal.specs.Journal.{is_device_fault}
-use Rattle.gate_journal.specs.declared.refusal.InitRefusal.{InitRefusal}
-use Rattle.gate_journal.specs.declared.refusal.InitRefusal.TheVariants.{AlreadyMade as InitMade, DeviceFault as InitFault, NoMemory as InitNoMemory}
-use Rattle.gate_journal.specs.declared.refusal.JournalRefusal.{JournalRefusal}
-use Rattle.gate_journal.specs.declared.refusal.JournalRefusal.TheVariants.{AlreadyMade as JournalMade, NotJournal as JournalPlace, DeviceFault as JournalFault, Closed as JournalClosed, RecordTooLong as JournalLong, NoMemory as JournalNoMemory}
-use Rattle.plasma_tx.specs.declared.call.RootCall.{RootCall}
-use Rattle.node_journal.specs.Begin.{is_init_fault}
-use Rattle.node_journal.specs.Notes.{NotesState}
-use Rattle.node_journal.specs.declared.stop.Stop.TheVariants.{NoMemory as NodeMemory}
-use Rattle.node_journal.specs.Parts.{Parts, alone, both}
-use Rattle.node_roles.specs.Notes.{NotesAt, with_note}
-use Rattle.node_roles.specs.Parts.{with_effect}
-use Rattle.node_roles.specs.Nodes.{NodeAt, Commands, outcome_at, node_does, IsNodeAt, StoppedAt}
-use Rattle.streamed_lines.specs.declared.ending.Ending.{Ending}
-use Rattle.streamed_lines.specs.declared.ending.Ending.TheVariants.{Complete, BadLine, ReadFault, TooLong, Ended}
-use Rattle.run_endings.specs.declared.status.Status.{Status}
-use Rattle.run_endings.specs.declared.status.Status.TheVariants.{NoMemory}
-use Rattle.run_endings.specs.Statuses.{FaultsBy}
-use Rattle.run_endings.specs.Endings.{status_of}
-use Rattle.node_runs.specs.Disks.{node_opened, KeepsNode}
-use Rattle.run_endings.specs.Faults.{Counts, CountsEither}
-use Rattle.node_runs.specs.Sessions.{Outside, RunsUnfailed}
-use Rattle.node_runs.specs.Runs.{node_rules, node_found}
+use Rattle.node_runs.proofs.Words.{◌≡◌, ℕ, Bool, true, false, List, Option, Result, Ok, Err, is_ok, inl, inr, refl, ap, ◌∙◌, subst, History, FaultPlan, is_device_fault, InitRefusal, InitMade, InitFault, InitNoMemory, JournalRefusal, JournalFault, RootCall, is_init_fault, NotesState, NodeMemory, Parts, alone, both, NotesAt, with_note, with_effect, NodeAt, Commands, outcome_at, node_does, IsNodeAt, StoppedAt, Ending, Complete, Status, NoMemory, FaultsBy, status_of, node_opened, KeepsNode, Counts, CountsEither, Outside, RunsUnfailed, node_rules, node_found}
 use Rattle.node_runs.proofs.DiskLaws.{disks_of, node-keeps, node-starved}
 use Rattle.node_runs.proofs.FaultLaws.{met, of_leaves, left-keep, leaves-stay, effect-keeps, session-counts}
 
 -- no session ends so that its status is want of memory
 pub status-none : (ending : Ending (List ℕ)) → status_of ending ≡ NoMemory → ⊥
 status-none Complete is = cc
-status-none (BadLine n) is = cc
-status-none ReadFault is = cc
-status-none (TooLong n) is = cc
-status-none (Ended n cause) is = cc
+status-none ending is = cc
 
 -- what a refusal met that is none for a device fault; and an init's
 pub refused-quiet : (Met : Bool → Type 0) (why : JournalRefusal) → (why ≡ JournalFault → ⊥)
     → Met (is_device_fault why) → Met false
 refused-quiet Met JournalFault never is = absurd (never refl)
-refused-quiet Met (JournalPlace place) never is = is
-refused-quiet Met (JournalMade count) never is = is
-refused-quiet Met (JournalLong count) never is = is
-refused-quiet Met JournalClosed never is = is
-refused-quiet Met JournalNoMemory never is = is
+refused-quiet Met why never is = is
 
 pub init-quiet : (Met : Bool → Type 0) (answer : Result Unit InitRefusal) → (answer ≡ Err InitFault → ⊥)
     → Met (is_init_fault answer) → Met false

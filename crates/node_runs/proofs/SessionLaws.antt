@@ -1,25 +1,13 @@
 -- A session of a node that was answered, or broken off, as a run of the node.
-use Rattle.std.proofs.Common.{◌≡◌, ◌⊎◌, ℕ, inl, inr, Bool, true, List, ◌++◌, Option, Ok, sym, ap, ◌∙◌, subst}
-use Rattle.plasma_tx.specs.declared.call.RootCall.{RootCall}
-use Rattle.node_journal.specs.declared.stop.Stop.{Stop as NodeStop}
-use Rattle.node_journal.specs.declared.stop.Stop.TheVariants.{NoMemory as NodeMemory, DeviceFault as NodeFault}
-use Rattle.streamed_lines.specs.declared.ending.Ending.{Ending}
-use Rattle.streamed_lines.specs.declared.ending.Ending.TheVariants.{Complete, BadLine, ReadFault, TooLong, Ended}
+use Rattle.node_runs.proofs.Words.{◌≡◌, ◌⊎◌, ℕ, inl, inr, Bool, true, List, ◌++◌, Option, Ok, sym, ap, ◌∙◌, subst, RootCall, NodeStop, NodeMemory, NodeFault, Ending, BadLine, TooLong, Ended, Rules, Stream, Streamed, stream_of, is_read_fault, next_text, IsLeft, HaltsNext, Answers, BrokeOff, SessionState, begun, calls_of, commanded, Status, WriteFault, DeviceFault, NoMemory, EndsAs, status_of, last_text, session_output, fault_output, Outside, AtNext, BrokenAt, RunsSession}
 use Rattle.streamed_lines.specs.declared.ending.Stop.TheVariants.{BadLine as BadLineStop, TooLong as TooLongStop, Ends}
 use Rattle.streamed_lines.specs.declared.ending.Halt.{Halt}
 use Rattle.streamed_lines.specs.declared.ending.Halt.TheVariants.{Stops, Failed, NoMemory as NoMemoryHalt}
 use Rattle.streamed_lines.specs.declared.ending.Break.{Break}
 use Rattle.streamed_lines.specs.declared.ending.Break.TheVariants.{WriteFault as WriteBreak, Failed as FailedBreak, NoMemory as NoMemoryBreak}
-use Rattle.streamed_lines.specs.Streams.{Rules, Stream, Streamed, stream_of}
 use Rattle.streamed_lines.specs.Bounds.{TakesFew}
-use Rattle.streamed_lines.specs.Reading.{is_read_fault, next_text, IsLeft, HaltsNext, Answers, BrokeOff}
-use Rattle.node_sessions.specs.Sessions.{SessionState, begun, calls_of, commanded}
+use Rattle.streamed_lines.specs.Reading.{IsBroken}
 use Rattle.node_sessions.specs.Commands.{IsHaltedNode}
-use Rattle.run_endings.specs.declared.status.Status.{Status}
-use Rattle.run_endings.specs.declared.status.Status.TheVariants.{Done, Refused, Usage, BadLine as BadLineStatus, ReadFault as ReadFaultStatus, WriteFault, DeviceFault, NoMemory, TooLong as TooLongStatus, NotJournal, AlreadyMade}
-use Rattle.run_endings.specs.Outputs.{EndsAs}
-use Rattle.run_endings.specs.Endings.{status_of, last_text, session_output, fault_output}
-use Rattle.node_runs.specs.Sessions.{Outside, AtNext, BrokenAt, RunsSession}
 use Rattle.node_runs.proofs.EndLaws.{ends-more, failed-of}
 
 -- over a session's answerer, which leaves the node where its lines left it
@@ -44,13 +32,12 @@ module _ {N A L W : Type 0} (rules : Rules (SessionState A) (List ℕ)) (command
   -- the node is where the answered lines left it
   left-at : (run : SessionState A) (line : List ℕ) (ending : Ending (List ℕ))
       → IsLeft Ran Halted session run line ending → IsAt node run.node
-  left-at run line Complete is = ran run is
-  left-at run line ReadFault is = ran run is
   left-at run line (BadLine n) (inl is) = ran run is
   left-at run line (BadLine n) (inr is) = halted run line (Stops BadLineStop) is
   left-at run line (TooLong n) (inl is) = ran run is
   left-at run line (TooLong n) (inr is) = halted run line (Stops TooLongStop) is
   left-at run line (Ended n cause) is = halted run line (Stops (Ends cause)) is
+  left-at run line ending is = ran run is
 
   -- a session that was answered to its end, whose last text was put
   pub answered-runs : {Faulted : List RootCall → A → L → Type 0}
@@ -83,14 +70,14 @@ module _ {N A L W : Type 0} (rules : Rules (SessionState A) (List ℕ)) (command
       })
 
   -- one whose next command met a device fault
-  pub faulted-runs : (left later taken put_then after : Option (List ℕ)) (text : List ℕ) (failed : Type 0)
+  pub faulted-runs : {takes_memory : Bool} (left later taken put_then after : Option (List ℕ)) (text : List ℕ) (failed : Type 0)
       (status : Status) (why : Break) → why ≡ FailedBreak
-      → BrokeOff rules (begun found) Ran Halted left later taken put_then text why session
+      → BrokeOff rules (begun found) Ran Halted takes_memory left later taken put_then text why session
       → EndsAs (fault_output text) status put_then after (Unit {0})
       → Runs (record { left = left; later = later; taken = taken; after = after }) failed status
-  faulted-runs left later taken put_then after text failed status why same broken ends =
+  faulted-runs {takes_memory = takes_memory} left later taken put_then after text failed status why same broken ends =
       let broke =
-      subst (λ why. BrokeOff rules (begun found) Ran Halted left later taken put_then text why session) same broken in
+      subst (λ why. BrokeOff rules (begun found) Ran Halted takes_memory left later taken put_then text why session) same broken in
       let is = broke.breaks in
       inr
       (inl
@@ -108,9 +95,9 @@ module _ {N A L W : Type 0} (rules : Rules (SessionState A) (List ℕ)) (command
       }))
 
   -- one that was broken off for this, behind which the node is there
-  broken-runs : {Faulted : List RootCall → A → L → Type 0}
+  broken-runs : {Faulted : List RootCall → A → L → Type 0} {takes_memory : Bool}
       (left later taken after : Option (List ℕ)) (text : List ℕ) (failed : Type 0) (why : Break)
-      (status : Status) (broke : BrokeOff rules (begun found) Ran Halted left later taken after text why session)
+      (status : Status) (broke : BrokeOff rules (begun found) Ran Halted takes_memory left later taken after text why session)
       → (rest : List ℕ) × (broke.put ++ rest ≡ broke.breaks.stream.text)
       → BrokenAt command_in (λ at. IsAt node at) (λ log at command. IsStopped node log at command NodeMemory) status
       broke.ended broke.bytes broke.breaks.stream
@@ -130,38 +117,38 @@ module _ {N A L W : Type 0} (rules : Rules (SessionState A) (List ℕ)) (command
       }))
 
   -- one whose sink refused
-  pub refused-runs : (left later taken after : Option (List ℕ)) (text : List ℕ) (failed : Type 0)
+  pub refused-runs : {takes_memory : Bool} (left later taken after : Option (List ℕ)) (text : List ℕ) (failed : Type 0)
       (why : Break) → why ≡ WriteBreak
-      → BrokeOff rules (begun found) Ran Halted left later taken after text why session
+      → BrokeOff rules (begun found) Ran Halted takes_memory left later taken after text why session
       → Runs (record { left = left; later = later; taken = taken; after = after }) failed WriteFault
-  refused-runs left later taken after text failed why same broken =
+  refused-runs {takes_memory = takes_memory} left later taken after text failed why same broken =
       let broke =
-      subst (λ why. BrokeOff rules (begun found) Ran Halted left later taken after text why session) same broken in
+      subst (λ why. BrokeOff rules (begun found) Ran Halted takes_memory left later taken after text why session) same broken in
       broken-runs left later taken after text failed WriteBreak WriteFault broke broke.breaks.put_is
       (ran broke.breaks.stream.run broke.breaks.broken)
 
-  starved-at : (ended : Bool) (bytes : List ℕ) (stream : Stream (SessionState A))
-      → Ran session stream.run ⊎ HaltsNext Ran Halted ended bytes session stream NoMemoryHalt
+  starved-at : (takes_memory ended : Bool) (bytes : List ℕ) (stream : Stream (SessionState A))
+      → IsBroken Ran Halted takes_memory ended bytes session stream NoMemoryBreak
       → IsAt node stream.run.node
       ⊎ AtNext command_in ended bytes stream (λ log at command. IsStopped node log at command NodeMemory)
-  starved-at ended bytes stream (inl is) = inl (ran stream.run is)
-  starved-at ended bytes stream (inr is) =
+  starved-at takes_memory ended bytes stream (inl is) = inl (ran stream.run is.0)
+  starved-at takes_memory ended bytes stream (inr is) =
       elim (halted stream.run (next_text bytes stream) NoMemoryHalt is.1) [
         | inl there ↦ inl there
         | inr stopped ↦ inr (is.0, stopped)
       ]
 
   -- one for which memory ran out
-  pub starved-runs : {Faulted : List RootCall → A → L → Type 0}
+  pub starved-runs : {Faulted : List RootCall → A → L → Type 0} {takes_memory : Bool}
       (left later taken after : Option (List ℕ)) (text : List ℕ) (failed : Type 0)
       (why : Break) → why ≡ NoMemoryBreak
-      → BrokeOff rules (begun found) Ran Halted left later taken after text why session
+      → BrokeOff rules (begun found) Ran Halted takes_memory left later taken after text why session
       → RunsBy Faulted (record { left = left; later = later; taken = taken; after = after }) failed NoMemory
-  starved-runs left later taken after text failed why same broken =
+  starved-runs {takes_memory = takes_memory} left later taken after text failed why same broken =
       let broke =
-      subst (λ why. BrokeOff rules (begun found) Ran Halted left later taken after text why session) same broken in
+      subst (λ why. BrokeOff rules (begun found) Ran Halted takes_memory left later taken after text why session) same broken in
       broken-runs left later taken after text failed NoMemoryBreak NoMemory broke broke.breaks.put_is
-      (starved-at broke.ended broke.bytes broke.breaks.stream broke.breaks.broken)
+      (starved-at takes_memory broke.ended broke.bytes broke.breaks.stream broke.breaks.broken)
 
 -- what a run did, in other words of where it leaves the node
 module _ {A L : Type 0} (rules : Rules (SessionState A) (List ℕ)) (command_in : List ℕ → Option L) (found : A)
@@ -190,15 +177,7 @@ module _ {A L : Type 0} (rules : Rules (SessionState A) (List ℕ)) (command_in 
       → BrokenAt command_in Left_ Unanswered_ status ended bytes stream
   broken-in WriteFault ended bytes stream is = left stream.run.node is
   broken-in NoMemory ended bytes stream is = broken-or ended bytes stream is
-  broken-in Done ended bytes stream is = absurd is
-  broken-in Refused ended bytes stream is = absurd is
-  broken-in Usage ended bytes stream is = absurd is
-  broken-in BadLineStatus ended bytes stream is = absurd is
-  broken-in ReadFaultStatus ended bytes stream is = absurd is
-  broken-in DeviceFault ended bytes stream is = absurd is
-  broken-in TooLongStatus ended bytes stream is = absurd is
-  broken-in NotJournal ended bytes stream is = absurd is
-  broken-in AlreadyMade ended bytes stream is = absurd is
+  broken-in status ended bytes stream is = absurd is
 
   pub in-words : (outside : Outside) (failed : Type 0) (status : Status)
       → RunsSession rules command_in found Left Faulted Unanswered outside failed status

@@ -9,5 +9,6 @@ mod session;
 
 pub use commanded::Commanded;
 pub use laws::done_commands_are_answered;
+pub use log::{first_log, read_call};
 pub use said::Said;
 pub use session::Session;

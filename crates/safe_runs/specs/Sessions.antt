@@ -1,6 +1,6 @@
 -- What a look reads: a log of the node's chain, the line `--`, and behind it at most one line with the time by the
 -- caller's clock, and then lines with the coins of which the operator didn't show a block.
-use Rattle.std.specs.Prelude.{◌≡◌, ℕ, ◌==◌, ◌&&◌, Bool, true, false, if◌then◌else◌, List, [], length, drop, codes, nat_eq, Option, Some, None, is_none, Result, Ok, Err}
+use Rattle.std.specs.Prelude.{◌≡◌, ℕ, ◌==◌, ◌&&◌, Bool, true, false, if◌then◌else◌, List, [], length, drop, codes, nat_eq, Option, Some, None, is_none, is_some, Result, Ok, Err}
 use Rattle.std.specs.List.{starts_with}
 use Rattle.std.specs.Ordering.{nat_cmp}
 use Rattle.std.specs.BTreeSet.{insert_key}
@@ -12,6 +12,7 @@ use Rattle.streamed_lines.specs.declared.ending.Halt.{Halt}
 use Rattle.streamed_lines.specs.declared.ending.Halt.TheVariants.{Stops, Failed, NoMemory}
 use Rattle.streamed_lines.specs.Streams.{Rules}
 use Rattle.node_sessions.specs.Sessions.{SessionState, OrStop, Next, first_log, joins, log_line}
+use Rattle.node_sessions.specs.Commands.{MayTakeMemory}
 use Rattle.safe_runs.specs.declared.told.Told.{Told}
 
 -- a look's input so far: a session as a node's, with what the lines behind its log told in the node's place
@@ -73,8 +74,9 @@ pub record IsRead (log : Option Chain) (is_over : Bool) (told : Told) (run : Loo
   pub over_is : is_over ≡ run.is_over
   pub told_is : told ≡ run.node
 
--- nothing fails but for want of memory
-abbrev pub IsNoFailure : Halt (List ℕ) → Type 0
-IsNoFailure (Stops stop) = Unit {0}
-IsNoFailure NoMemory = Unit {0}
-IsNoFailure Failed = ⊥
+-- Nothing fails but for want of memory. A line of the log takes some as one of a node's session does, and one behind it
+-- where it says that a coin is hidden.
+abbrev pub HaltsLook : LookState → List ℕ → Halt (List ℕ) → Type 0
+HaltsLook run line (Stops stop) = Unit {0}
+HaltsLook run line NoMemory = MayTakeMemory (λ line. is_some (hidden_in line)) run.log run.is_over line
+HaltsLook run line Failed = ⊥

@@ -7,7 +7,6 @@ mod guards;
 mod holdings;
 mod image;
 mod lasts;
-mod lines;
 mod look;
 mod node;
 mod role;

@@ -2,8 +2,8 @@ ghost use Rattle.std.specs.Prelude.{◌≡◌};
 ghost use Rattle.node_sessions.specs.Sessions.{begun, calls_of};
 ghost use Rattle.safe_runs.specs.Sessions.{LookState, untold};
 
-use super::lines::{first_log, read_call};
 use super::told::Told;
+use node_sessions::{first_log, read_call};
 use plasma_base::Bytes;
 use plasma_tx::RootLog;
 use root_log::is_end_of_log;
@@ -65,7 +65,7 @@ impl LookSession {
 }
 
 impl Answerer for LookSession {
-    ghost use Rattle.safe_runs.specs.Sessions.{LookState, IsRead, look_rules, IsNoFailure};
+    ghost use Rattle.safe_runs.specs.Sessions.{LookState, IsRead, look_rules, HaltsLook};
 
     type Cause = Bytes;
 
@@ -75,7 +75,7 @@ impl Answerer for LookSession {
 
     ghost ran = { λ session. IsRead session.log session.is_over session.told };
 
-    ghost halted = { λ _ _ _ halt. IsNoFailure halt };
+    ghost halted = { λ _. HaltsLook };
 
     ghost ready = { λ _. Unit {0} };
 

@@ -1,4 +1,4 @@
-ghost use Rattle.std.specs.Prelude.{◌≡◌, ◌==◌, [], length, unwrap_or, Ok, IfErr, OnOk};
+ghost use Rattle.std.specs.Prelude.{◌≡◌, ◌≢◌, ◌==◌, true, [], length, unwrap_or, is_some, Ok, Err, IfErr, OnOk};
 ghost use Rattle.std.specs.Ordering.{nat_cmp};
 ghost use Rattle.std.specs.BTreeSet.{insert_key};
 ghost use Rattle.plasma_tx.specs.Views.{now};
@@ -113,6 +113,7 @@ impl Told {
     fn set_time(&mut self, time: u64) -> Result<(), Halt<Bytes>>
         ensures told { OnOk result (with_time self.old time ≡ Ok self.new) }
         ensures halts { IfErr result (HaltsLog (with_time self.old time)) }
+        ensures memory { result ≢ Err Halt.NoMemory }
     {
         if self.clock.is_some() || !self.hidden.is_empty() {
             return Err(bad_line());
@@ -125,6 +126,7 @@ impl Told {
     pub fn tell(&mut self, line: &[u8]) -> Result<(), Halt<Bytes>>
         ensures told { OnOk result (told_in self.old line.now ≡ Ok self.new) }
         ensures halts { IfErr result (HaltsLog (told_in self.old line.now)) }
+        ensures memory { result ≡ Err Halt.NoMemory → is_some (hidden_in line.now) ≡ true }
     {
         if let Some(time) = number(line) {
             return self.set_time(time);

@@ -1,6 +1,7 @@
 -- A stream on its way: what was taken is answered, and the answers are put.
-use Rattle.std.proofs.Common.{◌≡◌, ℕ, Bool, true, false, List, [], ◌++◌, Option, Result, inl, refl, sym, ap, ◌∙◌, subst, append_assoc}
+use Rattle.std.proofs.Common.{◌≡◌, ℕ, Bool, true, false, List, [], ◌++◌, Option, Result, inl, inr, refl, sym, ap, ◌∙◌, subst, append_assoc}
 use Rattle.std.specs.Prelude.{IfOk, IfErr}
+use Rattle.std.proofs.lemmas.Bool.{false≢true}
 use Rattle.std.proofs.lemmas.List.{append-nil}
 use Rattle.plasma_outside.specs.declared.sink.SinkRefusal.{SinkRefusal}
 use Rattle.plasma_outside.specs.declared.sink.SinkRefusal.TheVariants.{Failed as SinkFailed, NoMemory as SinkNoMemory}
@@ -8,9 +9,10 @@ use Rattle.streamed_lines.specs.declared.ending.Ending.{Ending}
 use Rattle.streamed_lines.specs.declared.ending.Ending.TheVariants.{ReadFault}
 use Rattle.streamed_lines.specs.declared.ending.Halt.{Halt}
 use Rattle.streamed_lines.specs.declared.ending.Break.{Break}
+use Rattle.streamed_lines.specs.declared.ending.Break.TheVariants.{WriteFault, Failed as FailedBreak, NoMemory as NoMemoryBreak}
 use Rattle.streamed_lines.specs.Streams.{Rules}
 use Rattle.streamed_lines.specs.Outside.{Gave, Wrote, WroteFront}
-use Rattle.streamed_lines.specs.Reading.{halted_at, break_of, IsKept, Reads, EndsAs, Answers, BreaksOff, BrokeOff, HaltsWith}
+use Rattle.streamed_lines.specs.Reading.{halted_at, break_of, IsKept, Reads, EndsAs, Answers, IsBroken, BreaksOff, BrokeOff, HaltsWith}
 use Rattle.streamed_lines.proofs.StreamLaws.{if-ok, if-err}
 use Rattle.streamed_lines.proofs.StopLaws.{fault-ends, halts-end, halts-break}
 use Rattle.streamed_lines.proofs.ReadLaws.{nothing-read, kept-none, reads-put}
@@ -94,17 +96,35 @@ module _ {R C W : Type 0} (rules : Rules R C) (first : R) (Ran : W → R → Typ
       ends = ends;
     }
 
-    broken : (last : Option (List ℕ)) (bytes text' : List ℕ) (ended : Bool) (answerer' : W) (why : Break)
-        → Gave left last bytes ended → BreaksOff rules first Ran Halted ended bytes going.put text' why answerer'
-        → BrokeOff rules first Ran Halted left last taken after text' why answerer'
-    broken last bytes text' ended answerer' why gave breaks = record {
+    -- without the sink, whatever it takes
+    broken : (takes_memory : Bool) (last : Option (List ℕ)) (bytes text' : List ℕ) (ended : Bool) (answerer' : W)
+        (why : Break) → Gave left last bytes ended
+        → BreaksOff rules first Ran Halted false ended bytes going.put text' why answerer'
+        → BrokeOff rules first Ran Halted takes_memory left last taken after text' why answerer'
+    broken takes_memory last bytes text' ended answerer' why gave breaks = record {
       bytes = bytes;
       ended = ended;
       put = going.put;
       gave = gave;
       wrote = going.wrote;
-      breaks = breaks;
+      breaks = record {
+        front = breaks.front;
+        rest = breaks.rest;
+        stream = breaks.stream;
+        whole = breaks.whole;
+        runs = breaks.runs;
+        put_is = breaks.put_is;
+        broken = by why breaks.broken;
+      };
     }
+      where
+        by : (why : Break) → IsBroken Ran Halted false ended bytes answerer' breaks.stream why
+            → IsBroken Ran Halted takes_memory ended bytes answerer' breaks.stream why
+        by WriteFault is = is
+        by FailedBreak is = is
+        by NoMemoryBreak (inl (ran, inl wrong)) = absurd (false≢true wrong)
+        by NoMemoryBreak (inl (ran, inr some)) = inl (ran, inr some)
+        by NoMemoryBreak (inr asked) = inr asked
 
     -- the source failed
     pub going-faults : (last : Option (List ℕ)) → Gave later last [] false
@@ -127,15 +147,15 @@ module _ {R C W : Type 0} (rules : Rules R C) (first : R) (Ran : W → R → Typ
           → IfOk result (λ ending. EndsAs r first Ran Halted true bytes put text' ending answerer')) same ends
           first going.bytes going.put going.reads)
 
-      pub going-breaks : ((first : R) (bytes put : List ℕ)
+      pub going-breaks : (takes_memory : Bool) → ((first : R) (bytes put : List ℕ)
           → Reads rules' first Ran bytes put text line n start answerer
-          → IfErr result (λ why. BreaksOff rules' first Ran Halted true bytes put text' why answerer'))
-          → IfErr result (λ why. BrokeOff rules first Ran Halted left last taken after text' why answerer')
-      going-breaks breaks =
+          → IfErr result (λ why. BreaksOff rules' first Ran Halted false true bytes put text' why answerer'))
+          → IfErr result (λ why. BrokeOff rules first Ran Halted takes_memory left last taken after text' why answerer')
+      going-breaks takes_memory breaks =
           if-err _ _ result
-          (λ why. broken last going.bytes text' true answerer' why (gave-last last true gave))
+          (λ why. broken takes_memory last going.bytes text' true answerer' why (gave-last last true gave))
           (subst (λ r. (first : R) (bytes put : List ℕ) → Reads r first Ran bytes put text line n start answerer
-          → IfErr result (λ why. BreaksOff r first Ran Halted true bytes put text' why answerer')) same breaks
+          → IfErr result (λ why. BreaksOff r first Ran Halted false true bytes put text' why answerer')) same breaks
           first going.bytes going.put going.reads)
 
     -- a line of what was taken halted the stream
@@ -159,11 +179,11 @@ module _ {R C W : Type 0} (rules : Rules R C) (first : R) (Ran : W → R → Typ
           (halts-end rules first Ran Halted false (going.bytes ++ bytes) going.put text' n' answerer' halt result is
           halted)
 
-      pub halt-breaks :
-          IfErr result (λ why. BrokeOff rules first Ran Halted left last taken after text' why answerer')
-      halt-breaks =
+      pub halt-breaks : (takes_memory : Bool)
+          → IfErr result (λ why. BrokeOff rules first Ran Halted takes_memory left last taken after text' why answerer')
+      halt-breaks takes_memory =
           if-err _ _ result
-          (λ why. broken last (going.bytes ++ bytes) text' false answerer' why
+          (λ why. broken takes_memory last (going.bytes ++ bytes) text' false answerer' why
           (gave-more left later last going.bytes bytes false going.gave gave))
           (halts-break rules first Ran Halted false (going.bytes ++ bytes) going.put text' n' answerer' halt result is
           halted)
@@ -173,24 +193,25 @@ module _ {R C W : Type 0} (rules : Rules R C) (first : R) (Ran : W → R → Typ
         → Gave later last bytes false
         → Reads rules first Ran (going.bytes ++ bytes) going.put text' line' n' start' answerer'
         → (next : Option (List ℕ)) (refusal : SinkRefusal) (text'' : List ℕ) → WroteFront after next text'
-        → BrokeOff rules first Ran Halted left last taken next text'' (break_of refusal) answerer'
-    put-breaks last bytes text' line' n' start' answerer' gave reads next refusal text'' front = record {
+        → (takes_memory : Bool) → (refusal ≡ SinkNoMemory → takes_memory ≡ true)
+        → BrokeOff rules first Ran Halted takes_memory left last taken next text'' (break_of refusal) answerer'
+    put-breaks last bytes text' line' n' start' answerer' gave reads next refusal text'' front takes_memory takes = record {
       bytes = going.bytes ++ bytes;
       ended = false;
       put = going.put ++ front.front;
       gave = gave-more left later last going.bytes bytes false going.gave gave;
       wrote = wrote-more taken after next going.put front.front going.wrote front.wrote;
-      breaks = by_refusal refusal;
+      breaks = by_refusal refusal takes;
     }
       where
         told : (going.put ++ front.front) ++ front.back ≡ reads.stream.text
         told =
             append_assoc going.put front.front front.back ∙ ap (λ t. going.put ++ t) front.whole ∙ reads.told
 
-        by_refusal : (refusal : SinkRefusal)
-            → BreaksOff rules first Ran Halted false (going.bytes ++ bytes) (going.put ++ front.front) text''
+        by_refusal : (refusal : SinkRefusal) → (refusal ≡ SinkNoMemory → takes_memory ≡ true)
+            → BreaksOff rules first Ran Halted takes_memory false (going.bytes ++ bytes) (going.put ++ front.front) text''
             (break_of refusal) answerer'
-        by_refusal SinkFailed = record {
+        by_refusal SinkFailed takes = record {
           front = reads.front;
           rest = line';
           stream = reads.stream;
@@ -199,12 +220,12 @@ module _ {R C W : Type 0} (rules : Rules R C) (first : R) (Ran : W → R → Typ
           put_is = (front.back, told);
           broken = reads.ran;
         }
-        by_refusal SinkNoMemory = record {
+        by_refusal SinkNoMemory takes = record {
           front = reads.front;
           rest = line';
           stream = reads.stream;
           whole = reads.whole;
           runs = reads.runs;
           put_is = (front.back, told);
-          broken = inl reads.ran;
+          broken = inl (reads.ran, inl (takes refl));
         }

@@ -1,4 +1,4 @@
-mod LineLaws
+pub mod LineLaws
 pub mod OutsideLaws
 pub mod StreamLaws
 mod StopLaws

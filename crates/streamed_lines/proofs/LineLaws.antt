@@ -3,6 +3,7 @@ use Rattle.std.proofs.Common.{◌≡◌, ℕ, zero, suc, inl, inr, ◌+◌, ◌-
 use Rattle.std.specs.Prelude.{◌≢◌, slice_index, get_or}
 use Rattle.std.specs.List.{position_or_len}
 use Rattle.std.proofs.lemmas.Bool.{true≢false, eqb-true, ne_eqb, cases_lt, lt-ltb}
+use Rattle.std.proofs.lemmas.List.{length-append, length-take}
 use Rattle.std.proofs.lemmas.List.Elements.{All-cons, All-nil, All-append, All-from_get_or}
 use Rattle.std.proofs.lemmas.List.Quantifiers.{position-Some}
 use Rattle.std.proofs.lemmas.List.Sums.{fails_before_first}
@@ -87,6 +88,27 @@ pub plain-open : (line : List ℕ) → HasNoFeed line → is_whole line ≡ fals
 plain-open [] plain = refl
 plain-open (b ∷ line) plain =
     ne_eqb (slice_index (b ∷ line) (length (b ∷ line) - 1)) 10 (plain (length (b ∷ line) - 1) 0 (omega arith))
+
+-- the text of a line of which something was kept isn't empty
+pub text-kept : (line own : List ℕ) → HasNoFeed line → EndsWithItsFeed own → line ≢ [] → text_of (line ++ own) ≢ []
+text-kept line own plain ends some none =
+    let all = line ++ own in
+    let text : text_of all ≡ take (length all - 1) all =
+    ap (λ t. if t then take (length all - 1) all else all) (whole-feed all (feed-append line own plain ends)) in
+    let short : length (take (length all - 1) all) ≡ 0 = ap length (sym text ∙ none) in
+    some (none-long line
+    (omega (
+      arith,
+      short,
+      length-take (length all - 1) all,
+      length-append line own,
+      ap length ends.1,
+      length-append ends.0 (10 ∷ []),
+    )))
+  where
+    none-long : (xs : List ℕ) → length xs ≡ 0 → xs ≡ []
+    none-long [] is = refl
+    none-long (x ∷ xs) is = absurd (omega arith)
 
 -- ---- the lines of an input
 

@@ -169,7 +169,7 @@ module _ {R C W : Type 0} (rules : Rules R C) (Ran : W → R → Type 0) (taken 
         → ((stream : Stream R) → Ran answerer stream.run → n ≡ next_number stream
         → StopsAt rules' start stream (line ++ take (i + 1) rest) halt)
         → ((stream : Stream R) → Ran answerer stream.run → n ≡ next_number stream
-        → IsHalted Ran Halted start answerer' stream (line ++ take (i + 1) rest) halt)
+        → IsHalted Ran Halted start line answerer' stream (line ++ take (i + 1) rest) halt)
         → HaltsWith rules first Ran Halted false (bytes ++ taken) put text' n' answerer' halt
     way-stops i found low bound text' n' answerer' halt rules' same untold number at halted =
         let here = way.reads first bytes put begun in

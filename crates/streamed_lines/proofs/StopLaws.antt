@@ -1,5 +1,5 @@
 -- What ends a stream: a line, or the end of what is read.
-use Rattle.std.proofs.Common.{◌≡◌, ℕ, ◌+◌, ◌-◌, ◌<◌, ◌==◌, ◌⊎◌, ◌||◌, Bool, true, false, if◌then◌else◌, List, [], ◌∷◌, ◌++◌, length, take, Result, Ok, Err, inl, inr, refl, sym, ap, ◌∙◌, subst, arith, append_assoc}
+use Rattle.std.proofs.Common.{◌≡◌, ℕ, ◌+◌, ◌-◌, ◌<◌, ◌==◌, ◌||◌, Bool, true, false, if◌then◌else◌, List, [], ◌∷◌, ◌++◌, length, take, Result, Ok, Err, inl, inr, refl, sym, ap, ◌∙◌, subst, arith, append_assoc}
 use Rattle.std.specs.Prelude.{◌≢◌, sum_by, slice_index_or, IfOk, IfErr}
 use Rattle.std.proofs.lemmas.Bool.{true≢false, eqb-true}
 use Rattle.std.proofs.lemmas.List.{append-nil, length-append}
@@ -12,11 +12,12 @@ use Rattle.streamed_lines.specs.declared.ending.Stop.TheVariants.{BadLine as Bad
 use Rattle.streamed_lines.specs.declared.ending.Halt.{Halt}
 use Rattle.streamed_lines.specs.declared.ending.Halt.TheVariants.{Stops, Failed, NoMemory}
 use Rattle.streamed_lines.specs.declared.ending.Break.{Break}
+use Rattle.streamed_lines.specs.declared.ending.Break.TheVariants.{NoMemory as NoMemoryBreak}
 use Rattle.streamed_lines.specs.Lines.{lines_in, is_whole, text_of, is_too_long, limit_of, HasNoFeed, EndsWithItsFeed}
 use Rattle.streamed_lines.specs.Streams.{Rules, Stream, next_number, ending_at, with_answer, end_of_input, line_stream, stream_of}
 use Rattle.streamed_lines.specs.Bounds.{room, line_at, start_of, end_of, TakesFew}
-use Rattle.streamed_lines.specs.Reading.{halted_at, next_text, DoesLine, Gathers, StopsAt, IsKept, StopsKept, RunsTo, Reads, HaltedAt, IsHalted, IsLeft, HaltsNext, EndsAs, BreaksOff, HaltsWith}
-use Rattle.streamed_lines.proofs.LineLaws.{plain-open, feed-append, whole-feed, lines_in-feed, lines_in-unfinished, kept-fits}
+use Rattle.streamed_lines.specs.Reading.{halted_at, next_text, DoesLine, Gathers, StopsAt, IsKept, StopsKept, RunsTo, Reads, HaltedAt, IsHalted, IsLeft, HaltsNext, IsBroken, EndsAs, BreaksOff, HaltsWith}
+use Rattle.streamed_lines.proofs.LineLaws.{plain-open, feed-append, whole-feed, text-kept, lines_in-feed, lines_in-unfinished, kept-fits}
 use Rattle.streamed_lines.proofs.StreamLaws.{stream-stops, stream-ends, stream-answers, stream-over, waits, too-long}
 
 -- ---- how much was taken
@@ -173,11 +174,12 @@ few-end {C = C} rules bytes stream lines is count size =
 
 -- where it is left by a line that stops the stream
 left-by : {R C W : Type 0} (Ran : W → R → Type 0) (Halted : W → R → List ℕ → Halt C → Type 0) (answerer : W)
-    (stream : Stream R) (line : List ℕ) (n start : ℕ) (stop : Stop C) → IsHalted Ran Halted start answerer stream line (Stops stop)
+    (stream : Stream R) (kept line : List ℕ) (n start : ℕ) (stop : Stop C)
+    → IsHalted Ran Halted start kept answerer stream line (Stops stop)
     → IsLeft Ran Halted answerer stream.run (text_of line) (ending_at n stop)
-left-by Ran Halted answerer stream line n start BadLineStop halted = inr halted
-left-by Ran Halted answerer stream line n start TooLongStop halted = halted
-left-by Ran Halted answerer stream line n start (Ends cause) halted = halted
+left-by Ran Halted answerer stream kept line n start BadLineStop halted = inr halted
+left-by Ran Halted answerer stream kept line n start TooLongStop halted = halted
+left-by Ran Halted answerer stream kept line n start (Ends cause) halted = halted
 
 -- where it is left at the end of an input
 left-over : {R C W : Type 0} (rules : Rules R C) (Ran : W → R → Type 0) (Halted : W → R → List ℕ → Halt C → Type 0)
@@ -210,7 +212,7 @@ module _ {R C W : Type 0} (rules : Rules R C) (first : R) (Ran : W → R → Typ
   }
 
   breaks-memory : (ended : Bool) (all : List ℕ) (answerer' : W) (rest : List ℕ) → all ≡ reads.front ++ rest
-      → Ran answerer' reads.stream.run ⊎ HaltsNext Ran Halted ended all answerer' reads.stream NoMemory
+      → IsBroken Ran Halted false ended all answerer' reads.stream NoMemoryBreak
       → HaltsWith rules first Ran Halted ended all put text n answerer' NoMemory
   breaks-memory ended all answerer' rest whole halted = record {
     front = reads.front;
@@ -226,6 +228,22 @@ module _ {R C W : Type 0} (rules : Rules R C) (first : R) (Ran : W → R → Typ
   same-bytes own rest =
       ap (λ b. b ++ (own ++ rest)) reads.whole ∙ append_assoc reads.front line (own ++ rest)
       ∙ ap (λ b. reads.front ++ b) (sym (append_assoc line own rest))
+
+  -- the next line isn't empty of which something was kept
+  kept-whole : (own rest : List ℕ) → HasNoFeed line → EndsWithItsFeed own → line ≢ []
+      → next_text (bytes ++ (own ++ rest)) reads.stream ≢ []
+  kept-whole own rest plain ends some none =
+      text-kept line own plain ends some
+      (sym (next-whole rules first reads.front (line ++ own) reads.stream n reads.runs reads.number rest
+      (feed-append line own plain ends))
+      ∙ ap (λ b. next_text b reads.stream) (sym (same-bytes own rest)) ∙ none)
+
+  kept-last : HasNoFeed line → line ≢ [] → next_text bytes reads.stream ≢ []
+  kept-last plain some none =
+      some
+      (sym (ap (λ (t : Bool). if t then take (length line - 1) line else line) (plain-open line plain))
+      ∙ sym (next-last rules first reads.front line reads.stream n reads.runs reads.number plain some)
+      ∙ ap (λ b. next_text b reads.stream) (sym reads.whole) ∙ none)
 
   -- it halted at the line that ends there, which is the next one
   halted-whole : (answerer' : W) (own rest : List ℕ) (halt : Halt C) → HasNoFeed line → EndsWithItsFeed own
@@ -265,20 +283,23 @@ module _ {R C W : Type 0} (rules : Rules R C) (first : R) (Ran : W → R → Typ
   -- a line with its line feed
   pub line-stops : (answerer' : W) (own rest : List ℕ) (halt : Halt C) → HasNoFeed line → EndsWithItsFeed own
       → length rest < room → StopsAt rules start reads.stream (line ++ own) halt
-      → IsHalted Ran Halted start answerer' reads.stream (line ++ own) halt
+      → IsHalted Ran Halted start line answerer' reads.stream (line ++ own) halt
       → HaltsWith rules first Ran Halted false (bytes ++ (own ++ rest)) put text n answerer' halt
   line-stops answerer' own rest Failed plain ends short at halted =
       breaks-failed false (bytes ++ (own ++ rest)) answerer' ((line ++ own) ++ rest) (same-bytes own rest)
       (halted-whole answerer' own rest Failed plain ends halted)
   line-stops answerer' own rest NoMemory plain ends short at halted =
       breaks-memory false (bytes ++ (own ++ rest)) answerer' ((line ++ own) ++ rest) (same-bytes own rest)
-      (elim halted [ inl ran ↦ inl ran | inr asked ↦ inr (halted-whole answerer' own rest NoMemory plain ends asked) ])
+      (elim halted [
+        | inl kept ↦ inl (kept.0, inr (kept-whole own rest plain ends kept.1))
+        | inr asked ↦ inr (halted-whole answerer' own rest NoMemory plain ends asked)
+      ])
   line-stops answerer' own rest (Stops stop) plain ends short at halted =
       whole-stop answerer' own rest (ending_at n stop) plain ends
       (subst (λ m. DoesLine rules start reads.stream (line ++ own) (Err (ending_at m stop))) (sym reads.number) at)
       (few-feed rules first reads.front (line ++ own) reads.stream n reads.runs reads.number rest stop
       (feed-append line own plain ends) short)
-      (left-by Ran Halted answerer' reads.stream (line ++ own) n start stop halted)
+      (left-by Ran Halted answerer' reads.stream line (line ++ own) n start stop halted)
 
   -- what is kept of a line is fewer than a room behind its limit
   kept-few : IsKept n start line → length bytes < limit_of n start + room
@@ -291,7 +312,7 @@ module _ {R C W : Type 0} (rules : Rules R C) (first : R) (Ran : W → R → Typ
   pub kept-stops : (halt : Halt C) → HasNoFeed line → length bytes < limit_of n start + room
       → StopsKept n start line halt → HaltsWith rules first Ran Halted false bytes put text n answerer halt
   kept-stops Failed plain few never = absurd never
-  kept-stops NoMemory plain few at = breaks-memory false bytes answerer line reads.whole (inl reads.ran)
+  kept-stops NoMemory plain few at = breaks-memory false bytes answerer line reads.whole (inl (reads.ran, inr (kept-last plain at)))
   kept-stops (Stops BadLineStop) plain few never = absurd never
   kept-stops (Stops (Ends cause)) plain few never = absurd never
   kept-stops (Stops TooLongStop) plain few at =
@@ -347,31 +368,34 @@ module _ {R C W : Type 0} (rules : Rules R C) (first : R) (Ran : W → R → Typ
 
   last-halts : (answerer' : W) (halt : Halt C) → IsKept n start line → line ≢ []
       → StopsAt rules start reads.stream line halt
-      → IsHalted Ran Halted start answerer' reads.stream line halt
+      → IsHalted Ran Halted start line answerer' reads.stream line halt
       → HaltsWith rules first Ran Halted true bytes put text n answerer' halt
   last-halts answerer' Failed kept some at halted =
       breaks-failed true bytes answerer' line reads.whole (halted-last answerer' Failed kept.plain some halted)
   last-halts answerer' NoMemory kept some at halted =
       breaks-memory true bytes answerer' line reads.whole
-      (elim halted [ inl ran ↦ inl ran | inr asked ↦ inr (halted-last answerer' NoMemory kept.plain some asked) ])
+      (elim halted [
+        | inl ran ↦ inl (ran.0, inr (kept-last kept.plain some))
+        | inr asked ↦ inr (halted-last answerer' NoMemory kept.plain some asked)
+      ])
   last-halts answerer' (Stops stop) kept some at halted =
       last-ends answerer' (ending_at n stop) kept.plain some
       (subst (λ m. DoesLine rules start reads.stream line (Err (ending_at m stop))) (sym reads.number) at)
       (few-unfinished rules first reads.front line reads.stream n reads.runs reads.number stop kept.plain some
       (subst (λ b. length b < limit_of n (length reads.front) + room) reads.whole
       (subst (λ k. length bytes < limit_of n k + room) reads.size (kept-few kept))))
-      (left-by Ran Halted answerer' reads.stream line n start stop halted)
+      (left-by Ran Halted answerer' reads.stream line line n start stop halted)
 
   pub last-stops : (text' : List ℕ) (n' : ℕ) (answerer' : W) (halt : Halt C) → text' ≡ text → n' ≡ n
       → IsKept n start line → line ≢ [] → StopsAt rules start reads.stream (line ++ []) halt
-      → IsHalted Ran Halted start answerer' reads.stream (line ++ []) halt
+      → IsHalted Ran Halted start line answerer' reads.stream (line ++ []) halt
       → HaltsWith rules first Ran Halted true bytes put text' n' answerer' halt
   last-stops text' n' answerer' halt untold same kept some at halted =
       subst (λ t. HaltsWith rules first Ran Halted true bytes put t n' answerer' halt) (sym untold)
       (subst (λ m. HaltsWith rules first Ran Halted true bytes put text m answerer' halt) (sym same)
       (last-halts answerer' halt kept some
       (subst (λ l. StopsAt rules start reads.stream l halt) (append-nil line) at)
-      (subst (λ l. IsHalted Ran Halted start answerer' reads.stream l halt) (append-nil line) halted)))
+      (subst (λ l. IsHalted Ran Halted start line answerer' reads.stream l halt) (append-nil line) halted)))
 
   -- the last line was answered, and the input ends behind it
   pub last-answered : (text' : List ℕ) (n' : ℕ) (answerer' : W) (ending : Ending C) (rules' : Rules R C)
@@ -475,13 +499,13 @@ module _ {R C W : Type 0} (rules : Rules R C) (first : R) (Ran : W → R → Typ
 
   pub halts-break : (halt : Halt C) (result : Result (Ending C) Break) → result ≡ halted_at n halt
       → HaltsWith rules first Ran Halted ended bytes put text n answerer halt
-      → IfErr result (λ why. BreaksOff rules first Ran Halted ended bytes put text why answerer)
+      → IfErr result (λ why. BreaksOff rules first Ran Halted false ended bytes put text why answerer)
   halts-break halt result is halts =
-      subst (λ r. IfErr r (λ why. BreaksOff rules first Ran Halted ended bytes put text why answerer)) (sym is)
+      subst (λ r. IfErr r (λ why. BreaksOff rules first Ran Halted false ended bytes put text why answerer)) (sym is)
       (by_halt halt halts)
     where
       by_halt : (halt : Halt C) → HaltsWith rules first Ran Halted ended bytes put text n answerer halt
-          → IfErr (halted_at n halt) (λ why. BreaksOff rules first Ran Halted ended bytes put text why answerer)
+          → IfErr (halted_at n halt) (λ why. BreaksOff rules first Ran Halted false ended bytes put text why answerer)
       by_halt (Stops stop) halts = tt
       by_halt Failed halts = halts
       by_halt NoMemory halts = halts

@@ -47,10 +47,10 @@ pub record IsKept (n start : ℕ) (line : List ℕ) : Type 0 where
   pub starts : start ≤ MOST_INPUT_BYTES
   pub fits : start + length line ≤ limit_of n start
 
--- what is there of a line passes a limit
+-- what is there of a line passes a limit, or memory ran out for it
 abbrev pub StopsKept : {C : Type 0} → ℕ → ℕ → List ℕ → Halt C → Type 0
 StopsKept n start line (Stops TooLongStop) = (line ≢ []) × (is_too_long n start line ≡ true)
-StopsKept n start line NoMemory = Unit {0}
+StopsKept n start line NoMemory = line ≢ []
 StopsKept n start line halt = ⊥
 
 -- ---- by the rules
@@ -136,14 +136,14 @@ module _ {R C W : Type 0} (Ran : W → R → Type 0) (Halted : W → R → List 
       (is_too_long (next_number stream) start line ≡ false) × Halted answerer stream.run (text_of line) halt
 
   -- An answerer whose lines came to this stream and whose next line isn't answered: it halted there. Where the line passes
-  -- a limit or memory runs out it may not have been asked, and is where they left it.
-  abbrev pub IsHalted : ℕ → W → Stream R → List ℕ → Halt C → Type 0
-  IsHalted start answerer stream line (Stops TooLongStop) =
+  -- a limit it may not have been asked, and is where they left it; so where memory runs out and something was kept of it.
+  abbrev pub IsHalted : ℕ → List ℕ → W → Stream R → List ℕ → Halt C → Type 0
+  IsHalted start kept answerer stream line (Stops TooLongStop) =
       Ran answerer stream.run ⊎ Halted answerer stream.run (text_of line) (Stops TooLongStop)
-  IsHalted start answerer stream line (Stops stop) = Halted answerer stream.run (text_of line) (Stops stop)
-  IsHalted start answerer stream line NoMemory =
-      Ran answerer stream.run ⊎ HaltedAt start answerer stream line NoMemory
-  IsHalted start answerer stream line Failed = HaltedAt start answerer stream line Failed
+  IsHalted start kept answerer stream line (Stops stop) = Halted answerer stream.run (text_of line) (Stops stop)
+  IsHalted start kept answerer stream line NoMemory =
+      (Ran answerer stream.run × (kept ≢ [])) ⊎ HaltedAt start answerer stream line NoMemory
+  IsHalted start kept answerer stream line Failed = HaltedAt start answerer stream line Failed
 
   -- The same, where the stream ended so. No answerer is asked for a line that is missing.
   abbrev pub IsLeft : W → R → List ℕ → Ending C → Type 0
@@ -158,12 +158,14 @@ module _ {R C W : Type 0} (Ran : W → R → Type 0) (Halted : W → R → List 
   HaltsNext ended bytes answerer stream halt =
       MayBeAnswered ended bytes stream × Halted answerer stream.run (next_text bytes stream) halt
 
-  -- and where the stream was broken off
-  abbrev pub IsBroken : Bool → List ℕ → W → Stream R → Break → Type 0
-  IsBroken ended bytes answerer stream WriteFault = Ran answerer stream.run
-  IsBroken ended bytes answerer stream FailedBreak = HaltsNext ended bytes answerer stream Failed
-  IsBroken ended bytes answerer stream NoMemoryBreak =
-      Ran answerer stream.run ⊎ HaltsNext ended bytes answerer stream NoMemory
+  -- And where the stream was broken off. Where memory ran out and the answerer wasn't asked, the sink takes some, or the
+  -- next line is kept, since its text isn't empty.
+  abbrev pub IsBroken : Bool → Bool → List ℕ → W → Stream R → Break → Type 0
+  IsBroken takes_memory ended bytes answerer stream WriteFault = Ran answerer stream.run
+  IsBroken takes_memory ended bytes answerer stream FailedBreak = HaltsNext ended bytes answerer stream Failed
+  IsBroken takes_memory ended bytes answerer stream NoMemoryBreak =
+      (Ran answerer stream.run × ((takes_memory ≡ true) ⊎ (next_text bytes stream ≢ [])))
+      ⊎ HaltsNext ended bytes answerer stream NoMemory
 
 -- ---- what ended a stream
 
@@ -195,27 +197,28 @@ module _ {R C W : Type 0} (rules : Rules R C) (first : R) (Ran : W → R → Typ
   IsPut NoMemoryBreak put text all = (rest : List ℕ) × (put ++ rest ≡ all)
 
   -- a stream that was broken off behind some lines of these bytes, whose answers were put or are gathered
-  pub record BreaksOff (ended : Bool) (bytes put text : List ℕ) (why : Break) (answerer : W) : Type 0 where
+  pub record BreaksOff (takes_memory ended : Bool) (bytes put text : List ℕ) (why : Break) (answerer : W) : Type 0 where
     pub front : List ℕ
     pub rest : List ℕ
     pub stream : Stream R
     pub whole : bytes ≡ front ++ rest
     pub runs : RunsTo rules first front stream
     pub put_is : IsPut why put text stream.text
-    pub broken : IsBroken Ran Halted ended bytes answerer stream why
+    pub broken : IsBroken Ran Halted takes_memory ended bytes answerer stream why
 
-  -- where these are told: the source gave bytes on which the stream was broken off, and the sink has taken what was put
-  pub record BrokeOff (left later taken after : Option (List ℕ)) (text : List ℕ) (why : Break) (answerer : W)
-      : Type 0 where
+  -- where these are told: the source gave bytes on which the stream was broken off, and the sink, which takes memory or
+  -- none, has taken what was put
+  pub record BrokeOff (takes_memory : Bool) (left later taken after : Option (List ℕ)) (text : List ℕ) (why : Break)
+      (answerer : W) : Type 0 where
     pub bytes : List ℕ
     pub ended : Bool
     pub put : List ℕ
     pub gave : Gave left later bytes ended
     pub wrote : Wrote taken after put
-    pub breaks : BreaksOff ended bytes put text why answerer
+    pub breaks : BreaksOff takes_memory ended bytes put text why answerer
 
-  -- a line of these bytes halted the stream
+  -- a line of these bytes halted the stream, without the sink
   abbrev pub HaltsWith : Bool → List ℕ → List ℕ → List ℕ → ℕ → W → Halt C → Type 0
   HaltsWith ended bytes put text n answerer (Stops stop) = EndsAs ended bytes put text (ending_at n stop) answerer
-  HaltsWith ended bytes put text n answerer Failed = BreaksOff ended bytes put text FailedBreak answerer
-  HaltsWith ended bytes put text n answerer NoMemory = BreaksOff ended bytes put text NoMemoryBreak answerer
+  HaltsWith ended bytes put text n answerer Failed = BreaksOff false ended bytes put text FailedBreak answerer
+  HaltsWith ended bytes put text n answerer NoMemory = BreaksOff false ended bytes put text NoMemoryBreak answerer

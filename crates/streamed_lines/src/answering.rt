@@ -25,7 +25,8 @@ pub fn answer_kept<A: Answerer>(
         (StopsAt (A.rules answerer.old) reading.old.start stream (reading.old.line.items ++ rest.now)) }
     ensures halted { (stream : Stream A.Run) → A.ran answerer.old stream.run → reading.old.number ≡ next_number stream
         → IfErr result
-        (IsHalted A.ran A.halted reading.old.start answerer.new stream (reading.old.line.items ++ rest.now)) }
+        (IsHalted A.ran A.halted reading.old.start reading.old.line.items answerer.new stream
+        (reading.old.line.items ++ rest.now)) }
     ensures untold { OnErr result (text.new.items ≡ text.old.items) }
     ensures number { OnOk result (reading.new.number ≡ reading.old.number + 1) }
     ensures same_number { OnErr result (reading.new.number ≡ reading.old.number) }

@@ -117,7 +117,7 @@ fn answer_last<A: Answerer>(
         → Reads (A.rules answerer.old) first A.ran bytes put text.old.items
         reading.old.line.items reading.old.number reading.old.start answerer.old
         → IfErr result (λ why.
-        BreaksOff (A.rules answerer.old) first A.ran A.halted true bytes put text.new.items why answerer.new) }
+        BreaksOff (A.rules answerer.old) first A.ran A.halted false true bytes put text.new.items why answerer.new) }
     ensures rules { A.rules answerer.new ≡ A.rules answerer.old }
     ensures ready { result ≡ Ok Ending.Complete → A.ready answerer.new }
     ensures no_write { is_write_fault result ≡ false }
@@ -147,8 +147,8 @@ pub fn answer_lines<A: Answerer, S: Source, K: Sink>(
     requires first { A.ran answerer.old first }
     ensures answered { IfOk result (λ ending. Answers (A.rules answerer.old) first A.ran A.halted (S.left source.old)
         (S.left source.new) (K.taken sink.old) (K.taken sink.new) text.new.items ending answerer.new) }
-    ensures broken { IfErr result (λ why. BrokeOff (A.rules answerer.old) first A.ran A.halted (S.left source.old)
-        (S.left source.new) (K.taken sink.old) (K.taken sink.new) text.new.items why answerer.new) }
+    ensures broken { IfErr result (λ why. BrokeOff (A.rules answerer.old) first A.ran A.halted K.takes_memory
+        (S.left source.old) (S.left source.new) (K.taken sink.old) (K.taken sink.new) text.new.items why answerer.new) }
     ensures prompt { AnswersPromptly (answers_so_far (A.rules answerer.old) first) (S.left source.old) (S.left source.new)
         (S.failed_last source.new) (K.taken sink.old) (K.taken sink.new) }
     ensures reads { ReadsToFault (S.faults source.old) (S.faults source.new) (S.failed_last source.new)
