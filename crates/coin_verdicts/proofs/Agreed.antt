@@ -16,7 +16,7 @@ use Rattle.coin_verdicts.specs.declared.fact.Fact.{Fact}
 use Rattle.coin_verdicts.specs.declared.note.Holder.{Holder}
 use Rattle.coin_verdicts.specs.declared.note.Standing.{Standing}
 use Rattle.coin_verdicts.specs.Facts.{has, ended, IsFact, AreFacts}
-use Rattle.coin_verdicts.specs.Notes.{bound_in, taken_in, wallets_in, quiet_in, guards_in, nodes_at, wallets_at, tips_at, leaf_in, changes_in, noted, notes_in}
+use Rattle.coin_verdicts.specs.Notes.{bound_in, taken_in, wallets_in, quiet_in, guards_in, wallets_at, tips_at, leaf_in, changes_in, noted, notes_in}
 use Rattle.coin_verdicts.specs.Standings.{standing_in}
 use Rattle.coin_verdicts.proofs.Forms.{tick-form, watch-form}
 use Rattle.coin_verdicts.proofs.Lists.{eqb-comm}
@@ -96,12 +96,12 @@ module _ (tests : Tests) (rules : Rules) (holder : Holder) (c e : ℕ) where
         let form = tick-form (log_of events) time fact h in
         rw (
           form.is,
-          after-each holder e (length facts + 1) c (wallets_at (nodes_at c (quiet_in facts)) (wallets_in facts))
-              (tips_at (nodes_at c (quiet_in facts)) (guards_in facts c)) form.met (notes_in facts c),
+          after-each holder e (length facts + 1) c (wallets_at (quiet_in facts c) (wallets_in facts))
+              (tips_at (quiet_in facts c) (guards_in facts c)) form.met (notes_in facts c),
         )
         (meets-at holder e (length facts + 1) (notes_in facts c) dep acc sent out same (has form.met c)
-        (wallets_at (nodes_at c (quiet_in facts)) (wallets_in facts))
-        (tips_at (nodes_at c (quiet_in facts)) (guards_in facts c)))
+        (wallets_at (quiet_in facts c) (wallets_in facts))
+        (tips_at (quiet_in facts c) (guards_in facts c)))
     call-step (RootCall.After account coin block spend) fact h =
         rw h (ended-unpaid (exit_at (log_of events) coin block) coin block)
     call-step (RootCall.Between account coin block spend) fact h =

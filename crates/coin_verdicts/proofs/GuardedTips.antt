@@ -11,10 +11,10 @@ use Rattle.world_rules.specs.Safety.{is_quiet, is_watched_by, is_guarded}
 use Rattle.coin_verdicts.specs.declared.fact.Fact.{Fact}
 use Rattle.coin_verdicts.specs.declared.note.Guard.{Guard}
 use Rattle.coin_verdicts.specs.Facts.{has, IsFact, AreFacts}
-use Rattle.coin_verdicts.specs.Notes.{is_guard, guards_in, quiet_in, nodes_at, tips_at}
+use Rattle.coin_verdicts.specs.Notes.{is_guard, guards_in, quiet_in, tips_at}
 use Rattle.coin_verdicts.proofs.Forms.{is_of_call, call-form, watch-form}
 use Rattle.coin_verdicts.proofs.Lists.{same_truth, or-false, or-comm, any-dropped, any-made, any-at, eqb-comm}
-use Rattle.coin_verdicts.proofs.QuietNodes.{nodes-same}
+use Rattle.coin_verdicts.proofs.QuietNodes.{quiet-same}
 
 -- a pair that passes is the pair that is dropped, or it isn't
 pair-is : (a b m n i j : ℕ) → ((a == m) && (b == n)) ≡ true → ((a == i) && (b == j)) ≡ ((i == m) && (j == n))
@@ -137,21 +137,20 @@ any-ext p q (x ∷ xs) same =
 module _ (tests : Tests) (rules : Rules) where
   -- a tip is among those that a note names exactly where a quiet watcher guards it
   pub tips-same : (events : List Event) (facts : List Fact) (c e : ℕ) → AreFacts tests rules events facts
-      → has (tips_at (nodes_at c (quiet_in facts)) (guards_in facts c)) e
+      → has (tips_at (quiet_in facts c) (guards_in facts c)) e
       ≡ list_any (is_watched_by events c e) (watchers events)
   tips-same events facts c e h =
-      any-made (λ tip. tip == e) (λ guard. guard.tip) (λ guard. has (nodes_at c (quiet_in facts)) guard.watcher)
-      (guards_in facts c)
-      ∙ any-ext (λ guard. has (nodes_at c (quiet_in facts)) guard.watcher && (guard.tip == e))
+      any-made (λ tip. tip == e) (λ guard. guard.tip) (λ guard. quiet_in facts c guard.watcher) (guards_in facts c)
+      ∙ any-ext (λ guard. quiet_in facts c guard.watcher && (guard.tip == e))
       (passes_at (λ g. is_quiet events g c) e) (guards_in facts c)
-      (λ guard. ap (λ b. b && (guard.tip == e)) (nodes-same tests rules events facts guard.watcher c h))
+      (λ guard. ap (λ b. b && (guard.tip == e)) (quiet-same tests rules events facts c guard.watcher h))
       ∙ sym (watched-any (λ g. is_quiet events g c) (λ g. list_any (is_bundle c e) (guarded_by events g)) e
       (guards_in facts c) (watchers events) (λ g. guards-same tests rules events facts g c e h)
       (λ g. watcher-is events g c e))
 
   -- the coin is guarded exactly where a note says so
   pub guarded-same : (events : List Event) (facts : List Fact) (w c e : ℕ) → AreFacts tests rules events facts
-      → (has (nodes_at c (quiet_in facts)) w || has (tips_at (nodes_at c (quiet_in facts)) (guards_in facts c)) e)
+      → (quiet_in facts c w || has (tips_at (quiet_in facts c) (guards_in facts c)) e)
       ≡ is_guarded events w c e
   unfolding is_guarded
-  guarded-same events facts w c e h = grind (arith, common_steps, nodes-same, tips-same) steps 20000
+  guarded-same events facts w c e h = grind (arith, common_steps, quiet-same, tips-same) steps 20000

@@ -16,7 +16,7 @@ use Rattle.coin_verdicts.specs.declared.note.Holder.{Holder}
 use Rattle.coin_verdicts.specs.declared.note.Leaf.{Leaf}
 use Rattle.coin_verdicts.specs.declared.note.Standing.{Standing}
 use Rattle.coin_verdicts.specs.Facts.{has, ended, IsFact, AreFacts}
-use Rattle.coin_verdicts.specs.Notes.{wallets_in, bound_in, taken_in, quiet_in, guards_in, nodes_at, wallets_at, tips_at, leaf_in, where_so, returned, changes_in, noted, notes_in}
+use Rattle.coin_verdicts.specs.Notes.{wallets_in, bound_in, taken_in, quiet_in, guards_in, wallets_at, tips_at, leaf_in, where_so, returned, changes_in, noted, notes_in}
 use Rattle.coin_verdicts.specs.Standings.{has_coin, is_held_at, standing_in}
 use Rattle.coin_verdicts.proofs.Forms.{tick-form, watch-form, as-many}
 use Rattle.coin_verdicts.proofs.GuardedTips.{guarded-same}
@@ -134,12 +134,12 @@ module _ (tests : Tests) (rules : Rules) (holder : Holder) (c e : ℕ) where
         let form = tick-form (log_of events) time fact h in
         rw (
           form.is,
-          after-each holder e (length facts + 1) c (wallets_at (nodes_at c (quiet_in facts)) (wallets_in facts))
-              (tips_at (nodes_at c (quiet_in facts)) (guards_in facts c)) form.met (notes_in facts c),
+          after-each holder e (length facts + 1) c (wallets_at (quiet_in facts c) (wallets_in facts))
+              (tips_at (quiet_in facts c) (guards_in facts c)) form.met (notes_in facts c),
         )
         (judges-meets holder e (length facts + 1) (standing facts) (has form.met c)
-        (wallets_at (nodes_at c (quiet_in facts)) (wallets_in facts))
-        (tips_at (nodes_at c (quiet_in facts)) (guards_in facts c))
+        (wallets_at (quiet_in facts c) (wallets_in facts))
+        (tips_at (quiet_in facts c) (guards_in facts c))
         (goes_unattended events holder.wallet c e (Joins (RootCall.Tick time)))
         (unattended-same (meets_deadline (log_of events) c (Joins (RootCall.Tick time)))
         (holds events holder.wallet c e) (is_guarded events holder.wallet c e)

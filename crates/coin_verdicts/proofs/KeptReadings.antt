@@ -1,5 +1,5 @@
 -- What is kept of the facts that were read, after one more.
-use Rattle.std.proofs.Common.{◌≡◌, ℕ, ◌+◌, ◌==◌, ◌&&◌, ◌||◌, not, Bool, true, false, if◌then◌else◌, List, [], ◌∷◌, ◌++◌, length, reverse, slice_get, replicate, zero, suc, Option, Some, None, refl, ap, ◌∙◌, arith}
+use Rattle.std.proofs.Common.{◌≡◌, ℕ, ◌+◌, ◌==◌, ◌&&◌, ◌||◌, not, Bool, true, false, if◌then◌else◌, List, [], ◌∷◌, ◌++◌, filter, length, reverse, slice_get, replicate, zero, suc, Option, Some, None, refl, ap, ◌∙◌, arith}
 use Rattle.std.specs.Prelude.{option_map, nat_lt}
 use Rattle.std.proofs.lemmas.Bool.{false≢true, cases_eq, eq-eqb, ne_eqb, lt-ltb, le-ltb}
 use Rattle.std.proofs.lemmas.List.{reverse-append, length-reverse}
@@ -8,10 +8,10 @@ use Rattle.world_rules.proofs.WalletSends.{among-key}
 use Rattle.coin_verdicts.specs.declared.fact.Fact.{Fact}
 use Rattle.coin_verdicts.specs.declared.note.Change.{Change}
 use Rattle.coin_verdicts.specs.declared.note.Leaf.{Leaf}
-use Rattle.coin_verdicts.specs.declared.note.Quiet.{Quiet}
 use Rattle.coin_verdicts.specs.declared.reading.Reading.{Reading}
 use Rattle.coin_verdicts.specs.Facts.{has}
-use Rattle.coin_verdicts.specs.Notes.{wallets_after, wallets_in, bound_in, taken_in, without_node, quiet_after, quiet_in, guards_after, guards_in, where_so, returned, leaf_in, changes_in, noted, notes_in}
+use Rattle.coin_verdicts.specs.Notes.{wallets_after, wallets_in, bound_in, taken_in, stays_quiet, quiet_after, quiet_in, guards_after, guards_in, where_so, returned, leaf_in, changes_in, noted, notes_in}
+use Rattle.coin_verdicts.specs.Quiet.{is_quiet_at}
 use Rattle.coin_verdicts.specs.Books.{CoinBook, blank, with_more, with_guard, without_guard, book_at, IsChanged, AreMet, Signing, with_leaf, with_taken}
 use Rattle.coin_verdicts.specs.Signings.{signed_in, IsSigned}
 use Rattle.coin_verdicts.specs.Readings.{is_coin, book_in, Keeps}
@@ -50,14 +50,15 @@ module _ (count line : ℕ) (facts : List Fact) (old new : Reading) (is : line �
     (keeps : Keeps count facts old) where
   -- a fact that says nothing of leaves
   pub keeps-next : (fact : Fact) → is_unsigned fact ≡ true
-      → new.wallets.items ≡ wallets_after old.wallets.items fact → new.nodes ≡ quiet_after old.nodes fact
+      → new.wallets.items ≡ wallets_after old.wallets.items fact
+      → ((c n : ℕ) → is_quiet_at new.nodes c n ≡ quiet_after c n (is_quiet_at old.nodes c n) fact)
       → new.signers ≡ old.signers
       → ((c : ℕ) → book_at new.books c ≡ option_map (book_after facts line c fact) (book_at old.books c))
       → Keeps count (fact ∷ facts) new
   unfolding wallets_in quiet_in
   keeps-next fact unsigned wallets nodes signers books = record {
     wallets_are = wallets ∙ ap (λ ws. wallets_after ws fact) keeps.wallets_are;
-    nodes_are = nodes ∙ ap (λ ns. quiet_after ns fact) keeps.nodes_are;
+    nodes_are = λ c n. nodes c n ∙ ap (λ was. quiet_after c n was fact) (keeps.nodes_are c n);
     leaves_are = grind (arith, common_steps, unsigned-bound) steps 20000;
     taken_are = grind (arith, common_steps, unsigned-taken) steps 20000;
     books_are = grind (arith, common_steps, books-next) steps 20000;
@@ -72,7 +73,7 @@ module _ (count line : ℕ) (facts : List Fact) (old new : Reading) (is : line �
   -- a wallet binds its next leaf
   pub keeps-binds : (wallet coin parent : ℕ)
       → new.wallets.items ≡ wallets_after old.wallets.items (Fact.Binds wallet coin parent)
-      → new.nodes ≡ without_node wallet old.nodes
+      → ((c n : ℕ) → is_quiet_at new.nodes c n ≡ stays_quiet wallet n (is_quiet_at old.nodes c n))
       → IsSigned old.signers new.signers wallet
       (with_leaf (record { coin = coin; parent = parent }) (signed_in old.signers wallet))
       → ((c : ℕ) → book_at new.books c
@@ -81,7 +82,7 @@ module _ (count line : ℕ) (facts : List Fact) (old new : Reading) (is : line �
   unfolding wallets_in quiet_in bound_in taken_in
   keeps-binds wallet coin parent wallets nodes signers books = record {
     wallets_are = wallets ∙ keeps.wallets_are;
-    nodes_are = nodes ∙ ap (λ ns. quiet_after ns (Fact.Binds wallet coin parent)) keeps.nodes_are;
+    nodes_are = λ c n. nodes c n ∙ ap (stays_quiet wallet n) (keeps.nodes_are c n);
     leaves_are = λ w. grind (arith, common_steps, leaves-more, own) steps 20000;
     taken_are = λ w q. grind (arith, common_steps, own, at) steps 20000;
     books_are = grind (arith, common_steps, books-next) steps 20000;
@@ -104,7 +105,7 @@ module _ (count line : ℕ) (facts : List Fact) (old new : Reading) (is : line �
   -- a wallet takes a leaf back
   pub keeps-returns : (wallet number : ℕ)
       → new.wallets.items ≡ wallets_after old.wallets.items (Fact.TakesBack wallet number)
-      → new.nodes ≡ without_node wallet old.nodes
+      → ((c n : ℕ) → is_quiet_at new.nodes c n ≡ stays_quiet wallet n (is_quiet_at old.nodes c n))
       → IsSigned old.signers new.signers wallet (with_taken number (signed_in old.signers wallet))
       → ((c : ℕ) → book_at new.books c
       ≡ option_map (book_after facts line c (Fact.TakesBack wallet number)) (book_at old.books c))
@@ -112,7 +113,7 @@ module _ (count line : ℕ) (facts : List Fact) (old new : Reading) (is : line �
   unfolding wallets_in quiet_in bound_in taken_in
   keeps-returns wallet number wallets nodes signers books = record {
     wallets_are = wallets ∙ keeps.wallets_are;
-    nodes_are = nodes ∙ ap (λ ns. quiet_after ns (Fact.TakesBack wallet number)) keeps.nodes_are;
+    nodes_are = λ c n. nodes c n ∙ ap (stays_quiet wallet n) (keeps.nodes_are c n);
     leaves_are = λ w. ap (λ (s : Signing). s.leaves) (signers w ∙ own w) ∙ kept w (w == wallet) ∙ keeps.leaves_are w;
     taken_are = λ w q. grind (arith, common_steps, own, eqb-comm, at) steps 20000;
     books_are = grind (arith, common_steps, books-next) steps 20000;
@@ -175,13 +176,18 @@ pub released-books : (watcher coin tip c : ℕ) (books after : List CoinBook)
     }) (book_at books c)
 released-books watcher coin tip c books after is = grind (arith, common_steps, eqb-comm) steps 20000
 
+filter-same : {X : Type 0} (p q : X → Bool) (xs : List X) → ((x : X) → p x ≡ q x) → filter p xs ≡ filter q xs
+filter-same p q [] same = refl
+filter-same p q (x ∷ xs) same = rw (same x, filter-same p q xs same) refl
+
 -- a tick, by the wallets, nodes and guards that are kept
-pub met-books : (count line c : ℕ) (facts : List Fact) (wallets : List ℕ) (nodes : List Quiet) (met : List ℕ)
-    (books after : List CoinBook) → wallets ≡ wallets_in facts → nodes ≡ quiet_in facts
+pub met-books : (count line c : ℕ) (facts : List Fact) (wallets : List ℕ) (is_quiet : ℕ → ℕ → Bool) (met : List ℕ)
+    (books after : List CoinBook) → wallets ≡ wallets_in facts → ((n : ℕ) → is_quiet c n ≡ quiet_in facts c n)
     → book_at books c ≡ (if is_coin count c then Some (book_in facts c) else None)
-    → AreMet line wallets nodes met books after
+    → AreMet line wallets is_quiet met books after
     → book_at after c ≡ option_map (book_after facts line c (Fact.Ticks met)) (book_at books c)
-met-books count line c facts wallets nodes met books after known same was are = grind (arith, common_steps) steps 20000
+met-books count line c facts wallets is_quiet met books after known same was are =
+    grind (arith, common_steps, filter-same) steps 20000
 
 -- ---- leaves
 

@@ -3,7 +3,6 @@ pub mod Views
 pub mod Lists
 pub mod QuietNodes
 pub mod QuietWallets
-pub mod QuietPlaces
 pub mod GuardedTips
 pub mod SentLeaves
 pub mod OneLine

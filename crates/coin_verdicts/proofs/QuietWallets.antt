@@ -55,13 +55,13 @@ and-true : (b : Bool) → (b && true) ≡ b
 and-true true = refl
 and-true false = refl
 
-has-wallets_at : (nodes wallets : List ℕ) (w : ℕ)
-    → has (wallets_at nodes wallets) w ≡ (has nodes w && has wallets w)
-has-wallets_at nodes [] w = sym (and-false (has nodes w))
-has-wallets_at nodes (x ∷ xs) w = grind (arith, common_steps, has-wallets_at nodes xs w, eqb-true) steps 20000
+has-wallets_at : (is_quiet : ℕ → Bool) (wallets : List ℕ) (w : ℕ)
+    → has (wallets_at is_quiet wallets) w ≡ (is_quiet w && has wallets w)
+has-wallets_at is_quiet [] w = sym (and-false (is_quiet w))
+has-wallets_at is_quiet (x ∷ xs) w = grind (arith, common_steps, has-wallets_at is_quiet xs w, eqb-true) steps 20000
 
 -- whether a wallet that holds a coin is quiet or its tip is guarded, by the wallets alone
-pub quiet-among : (held : Bool) (nodes wallets : List ℕ) (w : ℕ) (guarded : Bool)
+pub quiet-among : (held : Bool) (is_quiet : ℕ → Bool) (wallets : List ℕ) (w : ℕ) (guarded : Bool)
     → (held ≡ true → has wallets w ≡ true)
-    → (held && not (has nodes w || guarded)) ≡ (held && not (has (wallets_at nodes wallets) w || guarded))
-quiet-among held nodes wallets w guarded so = grind (arith, common_steps, has-wallets_at, and-true) steps 20000
+    → (held && not (is_quiet w || guarded)) ≡ (held && not (has (wallets_at is_quiet wallets) w || guarded))
+quiet-among held is_quiet wallets w guarded so = grind (arith, common_steps, has-wallets_at, and-true) steps 20000

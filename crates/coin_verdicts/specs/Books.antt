@@ -1,12 +1,11 @@
 -- What is kept while facts are read: the leaves of each wallet, and the notes and guards of each coin.
-use Rattle.std.specs.Prelude.{◌≡◌, ℕ, ◌-◌, ◌==◌, not, if◌then◌else◌, List, [], ◌∷◌, ◌++◌, filter, slice_get, Option, None, unwrap_or, option_map}
+use Rattle.std.specs.Prelude.{◌≡◌, ℕ, Bool, ◌-◌, ◌==◌, not, if◌then◌else◌, List, [], ◌∷◌, ◌++◌, filter, slice_get, Option, None, unwrap_or, option_map}
 use Rattle.std.specs.Ordering.{nat_cmp}
 use Rattle.std.specs.BTreeMap.{BTreeMap, get}
 use Rattle.std.specs.BTreeSet.{insert_key}
 use Rattle.coin_verdicts.specs.declared.note.Note.{Note}
 use Rattle.coin_verdicts.specs.declared.note.Leaf.{Leaf}
 use Rattle.coin_verdicts.specs.declared.note.Guard.{Guard}
-use Rattle.coin_verdicts.specs.declared.note.Quiet.{Quiet}
 use Rattle.coin_verdicts.specs.Notes.{is_guard, meets, each_time, noted}
 
 -- the notes of a coin, the newest first, and its guards
@@ -39,20 +38,20 @@ abbrev pub IsChanged : ℕ → (CoinBook → CoinBook) → List CoinBook → Lis
 IsChanged coin change books after =
     (c : ℕ) → book_at after c ≡ (if c == coin then option_map change (book_at books c) else book_at books c)
 
--- the book with a note of a tick that meets a deadline of coin c, with these wallets and quiet nodes
-abbrev pub with_met : ℕ → ℕ → List ℕ → List Quiet → CoinBook → CoinBook
-with_met line c wallets nodes book =
-    with_more (record { line = line; change = meets c wallets nodes book.guards }) book
+-- the book with a note of a tick that meets a deadline of coin c, with these wallets; a node is quiet at a coin or not
+abbrev pub with_met : ℕ → ℕ → List ℕ → (ℕ → ℕ → Bool) → CoinBook → CoinBook
+with_met line c wallets is_quiet book =
+    with_more (record { line = line; change = meets c wallets is_quiet book.guards }) book
 
 -- the book with such a note for each time that coin c is among these
-abbrev pub with_each : ℕ → ℕ → List ℕ → List Quiet → List ℕ → CoinBook → CoinBook
-with_each line c wallets nodes met book =
-    record book { notes = noted line (each_time c (meets c wallets nodes book.guards) met) ++ book.notes }
+abbrev pub with_each : ℕ → ℕ → List ℕ → (ℕ → ℕ → Bool) → List ℕ → CoinBook → CoinBook
+with_each line c wallets is_quiet met book =
+    record book { notes = noted line (each_time c (meets c wallets is_quiet book.guards) met) ++ book.notes }
 
 -- the books after a tick
-abbrev pub AreMet : ℕ → List ℕ → List Quiet → List ℕ → List CoinBook → List CoinBook → Type 0
-AreMet line wallets nodes met books after =
-    (c : ℕ) → book_at after c ≡ option_map (with_each line c wallets nodes met) (book_at books c)
+abbrev pub AreMet : ℕ → List ℕ → (ℕ → ℕ → Bool) → List ℕ → List CoinBook → List CoinBook → Type 0
+AreMet line wallets is_quiet met books after =
+    (c : ℕ) → book_at after c ≡ option_map (with_each line c wallets is_quiet met) (book_at books c)
 
 -- a wallet's leaves in the order of time, and the numbers of those that it took back
 pub record Signing : Type 0 where

@@ -1,12 +1,8 @@
 -- What a fact says of an event, and when facts are those of the events of a run.
 use Rattle.std.specs.Prelude.{◌≡◌, ℕ, ◌+◌, ◌==◌, Bool, false, List, [], ◌∷◌, Option, Some, None}
 use Rattle.std.specs.List.{list_any}
-use Rattle.plasma_tx.specs.declared.owner.Owner.{Owner}
-use Rattle.plasma_tx.specs.declared.call.RootCall.{RootCall}
-use Rattle.plasma_tx.specs.Views.{blocks, coins, Exit, exit_at}
-use Rattle.plasma_tx.specs.Shown.{Tests, Rules}
-use Rattle.world_rules.specs.Events.{Event, Declares, Joins, Bounces, Accepts, Guards, Releases, Binds, TakesBack, Watches, Leaves, Seals, Other, Idle, log_of, coin_of_call, wallet_owner}
-use Rattle.world_rules.specs.Safety.{meets_deadline}
+use Rattle.plasma_tx.specs.{declared.owner.Owner.{Owner}, declared.call.RootCall.{RootCall}, Views.{blocks, coins, Exit, exit_at}, Shown.{Tests, Rules}}
+use Rattle.world_rules.specs.{Events.{Event, Declares, Joins, Bounces, Accepts, Guards, Releases, Binds, TakesBack, Watches, Leaves, Seals, Other, Idle, log_of, coin_of_call, wallet_owner}, Safety.{meets_deadline}}
 use Rattle.world_rules.specs.Verdicts.{is_finish_paid}
 use Rattle.coin_verdicts.specs.declared.fact.Fact.{Fact}
 

@@ -1,8 +1,7 @@
 -- What holds of every run.
 use Rattle.std.specs.Prelude.{◌≡◌, ℕ, List, Some}
 use Rattle.schedule_text.specs.declared.line.Line.{Line}
-use Rattle.world_rules.specs.World.{World}
-use Rattle.world_rules.specs.Steps.{Run, run_of, events_of}
+use Rattle.world_rules.specs.{World.{World}, Steps.{Run, run_of, events_of}}
 use Rattle.coin_verdicts.specs.Facts.{OwnersStay}
 
 -- a wallet that was declared keeps its owner, along the events of a run

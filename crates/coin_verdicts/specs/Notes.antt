@@ -4,17 +4,11 @@ use Rattle.coin_verdicts.specs.declared.fact.Fact.{Fact}
 use Rattle.coin_verdicts.specs.declared.note.Note.{Note}
 use Rattle.coin_verdicts.specs.declared.note.Change.{Change}
 use Rattle.coin_verdicts.specs.declared.note.Leaf.{Leaf}
-use Rattle.coin_verdicts.specs.declared.note.Quiet.{Quiet}
 use Rattle.coin_verdicts.specs.declared.note.Guard.{Guard}
 use Rattle.coin_verdicts.specs.declared.note.Holder.{Holder}
 use Rattle.coin_verdicts.specs.Facts.{has}
 
 -- ---- wallets
-
--- the fact declares the wallet
-abbrev pub declares : ℕ → Fact → Bool
-declares w (Fact.Declares wallet owner) = wallet == w
-declares w fact = false
 
 -- the holder that a fact in a line declares
 abbrev pub declared : ℕ → ℕ → Fact → Option Holder
@@ -57,30 +51,31 @@ taken_in (fact ∷ facts) w = taken_in facts w
 
 -- ---- nodes
 
--- the nodes without this one
-abbrev pub without_node : ℕ → List Quiet → List Quiet
-without_node n nodes = filter (λ quiet. not (quiet.node == n)) nodes
+-- whether node n is quiet after a command of a node that is no watch
+abbrev pub stays_quiet : ℕ → ℕ → Bool → Bool
+stays_quiet node n was = if node == n then false else was
 
--- which nodes are quiet after a fact
-abbrev pub quiet_after : List Quiet → Fact → List Quiet
-quiet_after nodes (Fact.Declares wallet owner) = nodes
-quiet_after nodes (Fact.Deposits coin block owner) = []
-quiet_after nodes (Fact.Ticks met) = []
-quiet_after nodes (Fact.Ends coin block account paid) = []
-quiet_after nodes Fact.Joins = []
-quiet_after nodes (Fact.Accepts wallet coin tip) = without_node wallet nodes
-quiet_after nodes (Fact.Guards watcher coin tip) = without_node watcher nodes
-quiet_after nodes (Fact.Releases watcher coin tip) = without_node watcher nodes
-quiet_after nodes (Fact.Binds wallet coin parent) = without_node wallet nodes
-quiet_after nodes (Fact.TakesBack wallet q) = without_node wallet nodes
-quiet_after nodes (Fact.Watches node coins) = without_node node nodes ++ record { node = node; coins = coins } ∷ []
-quiet_after nodes (Fact.Other node) = without_node node nodes
-quiet_after nodes Fact.Idle = nodes
+-- whether node n is quiet at coin c after a fact
+abbrev pub quiet_after : ℕ → ℕ → Bool → Fact → Bool
+quiet_after c n was (Fact.Declares wallet owner) = was
+quiet_after c n was (Fact.Deposits coin block owner) = false
+quiet_after c n was (Fact.Ticks met) = false
+quiet_after c n was (Fact.Ends coin block account paid) = false
+quiet_after c n was Fact.Joins = false
+quiet_after c n was (Fact.Accepts wallet coin tip) = stays_quiet wallet n was
+quiet_after c n was (Fact.Guards watcher coin tip) = stays_quiet watcher n was
+quiet_after c n was (Fact.Releases watcher coin tip) = stays_quiet watcher n was
+quiet_after c n was (Fact.Binds wallet coin parent) = stays_quiet wallet n was
+quiet_after c n was (Fact.TakesBack wallet q) = stays_quiet wallet n was
+quiet_after c n was (Fact.Watches node coins) = if node == n then not (has coins c) else was
+quiet_after c n was (Fact.Other node) = stays_quiet node n was
+quiet_after c n was Fact.Idle = was
 
--- the nodes whose last command was a watch, after which no call was accepted
-unfoldable pub quiet_in : List Fact → List Quiet
-quiet_in [] = []
-quiet_in (fact ∷ facts) = quiet_after (quiet_in facts) fact
+-- node n is quiet at coin c: its last command was a watch that offers no call of the coin, and no call was accepted
+-- since
+unfoldable pub quiet_in : List Fact → ℕ → ℕ → Bool
+quiet_in [] c n = false
+quiet_in (fact ∷ facts) c n = quiet_after c n (quiet_in facts c n) fact
 
 -- the guard is this one
 abbrev pub is_guard : ℕ → ℕ → Guard → Bool
@@ -99,22 +94,17 @@ unfoldable pub guards_in : List Fact → ℕ → List Guard
 guards_in [] c = []
 guards_in (fact ∷ facts) c = guards_after c (guards_in facts c) fact
 
--- the quiet nodes that offer no call of coin c
-abbrev pub nodes_at : ℕ → List Quiet → List ℕ
-nodes_at c nodes = map (λ quiet. quiet.node) (filter (λ quiet. not (has quiet.coins c)) nodes)
+-- the tips at which a quiet node guards a coin
+abbrev pub tips_at : (ℕ → Bool) → List Guard → List ℕ
+tips_at is_quiet guards = map (λ guard. guard.tip) (filter (λ guard. is_quiet guard.watcher) guards)
 
--- the tips at which one of the nodes guards a coin
-abbrev pub tips_at : List ℕ → List Guard → List ℕ
-tips_at nodes guards = map (λ guard. guard.tip) (filter (λ guard. has nodes guard.watcher) guards)
+-- those of the wallets that are quiet
+abbrev pub wallets_at : (ℕ → Bool) → List ℕ → List ℕ
+wallets_at is_quiet wallets = filter is_quiet wallets
 
--- those of the wallets that are among the nodes
-abbrev pub wallets_at : List ℕ → List ℕ → List ℕ
-wallets_at nodes wallets = filter (has nodes) wallets
-
--- a tick meets a deadline of coin c, with these wallets, quiet nodes and guards
-abbrev pub meets : ℕ → List ℕ → List Quiet → List Guard → Change
-meets c wallets nodes guards =
-    Change.Meets (wallets_at (nodes_at c nodes) wallets) (tips_at (nodes_at c nodes) guards)
+-- a tick meets a deadline of coin c, with these wallets and guards; a node is quiet at a coin or not
+abbrev pub meets : ℕ → List ℕ → (ℕ → ℕ → Bool) → List Guard → Change
+meets c wallets is_quiet guards = Change.Meets (wallets_at (is_quiet c) wallets) (tips_at (is_quiet c) guards)
 
 -- ---- the notes of a coin
 

@@ -4,6 +4,7 @@ use Rattle.coin_verdicts.specs.declared.fact.Fact.{Fact}
 use Rattle.coin_verdicts.specs.declared.reading.Reading.{Reading}
 use Rattle.coin_verdicts.specs.Facts.{has}
 use Rattle.coin_verdicts.specs.Notes.{wallets_in, bound_in, taken_in, quiet_in, guards_in, notes_in}
+use Rattle.coin_verdicts.specs.Quiet.{is_quiet_at}
 use Rattle.coin_verdicts.specs.Books.{CoinBook, book_at}
 use Rattle.coin_verdicts.specs.Signings.{signed_in}
 
@@ -23,7 +24,7 @@ HasBooks count facts books =
 -- what is kept of the facts that were read, the newest first
 pub record Keeps (count : ℕ) (facts : List Fact) (reading : Reading) : Type 0 where
   pub wallets_are : reading.wallets.items ≡ wallets_in facts
-  pub nodes_are : reading.nodes ≡ quiet_in facts
+  pub nodes_are : (c n : ℕ) → is_quiet_at reading.nodes c n ≡ quiet_in facts c n
   pub leaves_are : (w : ℕ) → (signed_in reading.signers w).leaves ≡ reverse (bound_in facts w)
   pub taken_are : (w q : ℕ) → has (signed_in reading.signers w).taken q ≡ has (taken_in facts w) q
   pub books_are : HasBooks count facts reading.books

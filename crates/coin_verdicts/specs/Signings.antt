@@ -1,7 +1,6 @@
 -- What is kept of each wallet's leaves.
 use Rattle.std.specs.Prelude.{◌≡◌, ℕ, ◌==◌, if◌then◌else◌}
-use Rattle.coin_verdicts.specs.Books.{Signing, signing_of}
-use Rattle.coin_verdicts.specs.declared.signers.Signers.{Signers}
+use Rattle.coin_verdicts.specs.{Books.{Signing, signing_of}, declared.signers.Signers.{Signers}}
 
 -- what a wallet signed
 abbrev pub signed_in : Signers → ℕ → Signing

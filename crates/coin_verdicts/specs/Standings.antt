@@ -3,13 +3,8 @@ use Rattle.std.specs.Prelude.{ℕ, ◌+◌, ◌-◌, ◌==◌, ◌&&◌, ◌||�
 use Rattle.std.specs.Option.{option_or}
 use Rattle.plasma_tx.specs.declared.owner.Owner.{Owner}
 use Rattle.wallet_core.specs.State.{is_owner, greatest}
-use Rattle.world_rules.specs.declared.verdict.VerdictKind.{VerdictKind}
-use Rattle.world_rules.specs.Verdicts.{lost_or}
-use Rattle.coin_verdicts.specs.declared.note.Note.{Note}
-use Rattle.coin_verdicts.specs.declared.note.Change.{Change}
-use Rattle.coin_verdicts.specs.declared.note.Holder.{Holder}
-use Rattle.coin_verdicts.specs.declared.note.Standing.{Standing}
-use Rattle.coin_verdicts.specs.Facts.{has}
+use Rattle.world_rules.specs.{declared.verdict.VerdictKind.{VerdictKind}, Verdicts.{lost_or}}
+use Rattle.coin_verdicts.specs.{declared.note.Note.{Note}, declared.note.Change.{Change}, declared.note.Holder.{Holder}, declared.note.Standing.{Standing}, Facts.{has}}
 
 -- before the first note
 abbrev pub no_notes : Standing

@@ -1,14 +1,8 @@
 -- The verdicts on the coins of wallets, by facts, the newest first.
 use Rattle.std.specs.Prelude.{ℕ, ◌+◌, List, [], ◌∷◌, Option, Some, None, option_map}
 use Rattle.std.specs.List.{filter_map, range_with_len}
-use Rattle.world_rules.specs.declared.verdict.Verdict.{Verdict}
-use Rattle.world_rules.specs.Verdicts.{Named}
-use Rattle.coin_verdicts.specs.declared.fact.Fact.{Fact}
-use Rattle.coin_verdicts.specs.declared.note.Holder.{Holder}
-use Rattle.coin_verdicts.specs.declared.wallet.NamedWallet.{NamedWallet}
-use Rattle.coin_verdicts.specs.Notes.{holder_in, notes_in}
-use Rattle.coin_verdicts.specs.Standings.{kind_in}
-use Rattle.coin_verdicts.specs.Books.{CoinBook, book_at}
+use Rattle.world_rules.specs.{declared.verdict.Verdict.{Verdict}, Verdicts.{Named}}
+use Rattle.coin_verdicts.specs.{declared.fact.Fact.{Fact}, declared.note.Holder.{Holder}, declared.wallet.NamedWallet.{NamedWallet}, Notes.{holder_in, notes_in}, Standings.{kind_in}, Books.{CoinBook, book_at}}
 
 -- how many coins a fact makes
 abbrev pub made_by : Fact → ℕ

@@ -1,6 +1,7 @@
 ghost use Rattle.std.specs.Prelude.{◌≡◌, ◌-◌, ◌==◌, ◌||◌, if◌then◌else◌, nat_lt, not, filter, replicate, reverse, IfOk, OnOk, IfSome, IfNone, Some, None};
 ghost use Rattle.coin_verdicts.specs.Facts.{has};
-ghost use Rattle.coin_verdicts.specs.Notes.{is_guard, nodes_at, wallets_at, tips_at};
+ghost use Rattle.coin_verdicts.specs.Notes.{is_guard, wallets_at, tips_at};
+ghost use Rattle.coin_verdicts.specs.Quiet.{is_quiet_at};
 ghost use Rattle.coin_verdicts.specs.Books.{blank, with_more, with_guard, without_guard, with_met, book_at, IsChanged, AreMet};
 
 use super::fact::Numbers;
@@ -62,7 +63,7 @@ impl Book {
 
     /// The tips at which a quiet node that offers no call of the coin guards it.
     pub fn tips(&self, alloc: Global, coin: u64, nodes: &QuietNodes) -> Result<Numbers, NoMemory>
-        ensures { IfOk result (λ tips. tips ≡ tips_at (nodes_at coin nodes.now) self.now.guards) }
+        ensures { IfOk result (λ tips. tips ≡ tips_at (is_quiet_at nodes.now coin) self.now.guards) }
     {
         Ok(Numbers::from_vec(tips_at(alloc, coin, nodes, &self.guards)?))
     }
@@ -76,7 +77,7 @@ impl Book {
         wallets: &[u64],
         nodes: &QuietNodes,
     ) -> Result<(), NoMemory>
-        ensures { OnOk result (self.new ≡ with_met line coin wallets.now nodes.now self.old) }
+        ensures { OnOk result (self.new ≡ with_met line coin wallets.now (is_quiet_at nodes.now) self.old) }
     {
         let tips = self.tips(alloc, coin, nodes)?;
         let wallets = Numbers::from_vec(wallets_at(alloc, coin, nodes, wallets)?);
@@ -171,7 +172,8 @@ impl Books {
         wallets: &[u64],
         nodes: &QuietNodes,
     ) -> Result<(), NoMemory>
-        ensures { OnOk result (IsChanged coin (with_met line coin wallets.now nodes.now) self.old self.new) }
+        ensures { OnOk result (IsChanged coin
+            (with_met line coin wallets.now (is_quiet_at nodes.now)) self.old self.new) }
     {
         match place_of(self.items.len(), coin) {
             None => Ok(()),
@@ -188,7 +190,7 @@ impl Books {
         wallets: &[u64],
         nodes: &QuietNodes,
     ) -> Result<(), NoMemory>
-        ensures { OnOk result (AreMet line wallets.now nodes.now met.now self.old self.new) }
+        ensures { OnOk result (AreMet line wallets.now (is_quiet_at nodes.now) met.now self.old self.new) }
     {
         for coin in met {
             self.meet(alloc, line, *coin, wallets, nodes)?;
@@ -222,7 +224,7 @@ fn tips_at(
     nodes: &QuietNodes,
     guards: &[Guard],
 ) -> Result<Vec<u64>, NoMemory>
-    ensures { IfOk result (λ tips. tips.items ≡ tips_at (nodes_at coin nodes.now) guards.now) }
+    ensures { IfOk result (λ tips. tips.items ≡ tips_at (is_quiet_at nodes.now coin) guards.now) }
 {
     let mut tips = Vec::new(alloc);
     for guard in guards {
@@ -240,7 +242,7 @@ fn wallets_at(
     nodes: &QuietNodes,
     wallets: &[u64],
 ) -> Result<Vec<u64>, NoMemory>
-    ensures { IfOk result (λ quiet. quiet.items ≡ wallets_at (nodes_at coin nodes.now) wallets.now) }
+    ensures { IfOk result (λ quiet. quiet.items ≡ wallets_at (is_quiet_at nodes.now coin) wallets.now) }
 {
     let mut quiet = Vec::new(alloc);
     for wallet in wallets {

@@ -83,14 +83,6 @@ pub struct Leaf {
     pub parent: u64,
 }
 
-/// A node that watched, with the coins of the calls that it offers. No call was accepted since, and the node had no
-/// other command.
-#[derive(Drop)]
-pub struct Quiet {
-    pub node: u64,
-    pub coins: Numbers,
-}
-
 /// A watcher guards a coin at this tip.
 #[derive(Clone, Copy, Drop)]
 pub struct Guard {

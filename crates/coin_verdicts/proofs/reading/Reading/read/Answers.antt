@@ -9,7 +9,8 @@ returns-in-Declares c = rw c.in-Declares.is (c.declare.ensures c.args.line _)
 
 pub returns-in-Idle : goal.returns-in-Idle
 returns-in-Idle c count facts is keeps =
-    rw c.in-Idle.is (keeps-next count c.args.line facts c.args.self.now _ is keeps Fact.Idle refl refl refl refl
+    rw c.in-Idle.is (keeps-next count c.args.line facts c.args.self.now _ is keeps Fact.Idle refl refl
+    (λ coin n. refl) refl
     (λ coin. same-book (book_at c.args.self.now.books coin)))
 
 pub returns-in-Other : goal.returns-in-Other
