@@ -1,11 +1,7 @@
 -- What a disk over a file tells is what its file holds.
-use Rattle.std.proofs.Common.{◌≡◌, ◌<◌, ℕ, zero, suc, Bool, true, false, ◌&&◌, if◌then◌else◌, List, [], ◌∷◌, length, Option, Some, None, Result, Ok, Err, is_err, IfOk, OnOk, refl, sym, ◌∙◌, ap, subst, arith}
-use Rattle.std.specs.Option.{option_map}
+use Rattle.crash_disk.proofs.Words.{◌≡◌, ◌<◌, ℕ, zero, suc, Bool, true, false, if◌then◌else◌, List, [], ◌∷◌, length, Option, Some, None, Result, Ok, Err, is_err, IfOk, OnOk, refl, sym, ◌∙◌, ap, subst, arith, option_map, common_steps, Step, asks_length, reads, writes, syncs, DeviceCall, History, content_after_step, content_after, content, with_call, WhereTold, FileAsk, FileCall, finds, marks, asked, all_passed, holds, WhereHeld, AllPassed, has_name, sync_asks, asks_of, went, marked, Asked, Makes, AreFor, told_of}
 use Rattle.std.proofs.Math.Logic.{∥∥₁_map, ∥∥₁_elim}
 use Rattle.std.proofs.Props.{props}
-use Rattle.crash_disk.specs.Disk.{Step, asks_length, reads, writes, syncs, DeviceCall, History, content_after_step, content_after, content, with_call}
-use Rattle.crash_disk.specs.Calls.{WhereTold}
-use Rattle.crash_disk.specs.FileCalls.{FileAsk, FileCall, finds, marks, is_sync_ask, asked, all_passed, holds, WhereHeld, AllPassed, has_name, sync_asks, asks_of, went, marked, Asked, Makes, AreFor, told_of}
 
 -- a call more in front
 pub one_more : (ask : FileAsk) (asks : List FileAsk) (failed : Bool) (old mid new : List FileCall)
@@ -22,9 +18,7 @@ one_more ask asks true old mid new is made = (
 pub sync_more : (known failed : Bool) (old mid new : List FileCall) → known ≡ has_name old
     → mid ≡ asked (finds true) false old → Asked (sync_asks known) failed mid new
     → Asked (asks_of syncs true (has_name old)) failed old new
-sync_more known failed old mid new is found made =
-    one_more (finds true) (sync_asks (has_name old)) failed old mid new found
-    (subst (λ (b : Bool). Asked (sync_asks b) failed mid new) is made)
+sync_more known failed old mid new is found made = grind (arith, common_steps, one_more) steps 20000
 
 broken : (count : ℕ) (asks : List FileAsk) (calls : List FileCall) → count < length asks
     → all_passed (went count asks calls) ≡ false
@@ -34,12 +28,10 @@ broken (suc count) (ask ∷ asks) calls lt = broken count asks (asked ask false 
 
 mark_if : (b : Bool) (calls : List FileCall)
     → all_passed (if b then asked marks false calls else calls) ≡ all_passed calls
-mark_if true calls = refl
-mark_if false calls = refl
+mark_if b calls = grind (arith, common_steps) steps 20000
 
 marked_broken : (calls : List FileCall) → all_passed calls ≡ false → all_passed (marked calls) ≡ false
-marked_broken [] is = is
-marked_broken (call ∷ calls) is = mark_if (is_sync_ask call.ask && call.failed) (call ∷ calls) ∙ is
+marked_broken calls is = grind (arith, common_steps, mark_if) steps 20000
 
 -- what a device call leaves that passed
 abbrev Passed : Step → List ℕ → List FileCall → List FileCall → Type 0
@@ -48,8 +40,7 @@ Passed step image old new =
 
 sync_passed : (named : Bool) (image : List ℕ) (old new : List FileCall)
     → new ≡ went (length (sync_asks named)) (sync_asks named) old → all_passed new ≡ true → Passed syncs image old new
-sync_passed true image old new is all = (ap all_passed (sym is) ∙ all, ap (holds image) is)
-sync_passed false image old new is all = (ap all_passed (sym is) ∙ all, ap (holds image) is)
+sync_passed named image old new is all = grind (arith, common_steps) steps 20000
 
 step_passed : (step : Step) (there named : Bool) (image : List ℕ) (old new : List FileCall)
     → new ≡ went (length (asks_of step there named)) (asks_of step there named) old → all_passed new ≡ true
@@ -65,12 +56,8 @@ step_passed syncs true named image old new is all =
 
 made_passed : (step : Step) (failed : Bool) (image : List ℕ) (old new : List FileCall)
     → Makes step failed old new → all_passed new ≡ true → Passed step image old new
-made_passed step false image old new made all = step_passed step made.0 (has_name old) image old new made.1 all
-made_passed step true image old new made all =
-    let asks = asks_of step made.0 (has_name old) in
-    let broke : all_passed new ≡ false = ap all_passed made.1.2
-    ∙ marked_broken (went made.1.0 asks old) (broken made.1.0 asks old made.1.1) in
-    absurd (cc (sym all ∙ broke))
+made_passed step failed image old new made all =
+    grind (arith, common_steps, step_passed, marked_broken, broken) steps 20000
 
 held : (image : List ℕ) (calls : List DeviceCall) (files : List FileCall) → AreFor calls files
     → all_passed files ≡ true → holds image files ≡ content_after image calls
@@ -96,8 +83,7 @@ told_where (Some image) past files P are all is history told =
 -- one device call more is told
 pub told_more : (began : Option (List ℕ)) (past : History) (step : Step) (failed : Bool)
     → told_of began (with_call step failed past) ≡ option_map (with_call step failed) (told_of began past)
-told_more None past step failed = refl
-told_more (Some image) past step failed = refl
+told_more began past step failed = grind (arith, common_steps) steps 20000
 
 -- what is told of a call with a value
 pub told_value : {T E : Type 0} (began : Option (List ℕ)) (past : History) (files : List FileCall)

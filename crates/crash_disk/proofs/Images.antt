@@ -1,31 +1,14 @@
 -- Each outcome leaves an image that the disk model allows.
-use Rattle.std.proofs.Common.{◌≡◌, ◌⊎◌, ◌<◌, ◌≤◌, ◌+◌, ◌-◌, ℕ, min, Bool, true, false, leb, ◌||◌, ◌&&◌, List, [], ◌∷◌, ◌++◌, length, take, drop, get_or, map, suc, zero, cond, refl, sym, ◌∙◌, ap, inl, inr, arith, length-append, length-take, length-drop}
-use Rattle.std.proofs.lemmas.Bool.{cases_lt, le-leb, lt-ltb}
-use Rattle.std.proofs.lemmas.Bool.Decides.{nat_tests}
-use Rattle.std.proofs.lemmas.List.{append-nil, get_or_append_left, get_or-append_right, get_or-take, get_or-drop}
-use Rattle.std.proofs.lemmas.List.Folds.{list_any-append}
-use Rattle.std.proofs.lemmas.List.FromFn.{length-map-range_with_len, get_or-map-range_with_len}
-use Rattle.std.specs.List.{list_any, count_by, range_with_len}
-use Rattle.std.proofs.lemmas.Grind.{same_number_lists}
-use Rattle.std.proofs.lemmas.List.Sums.{sum_by-append}
-use Rattle.crash_disk.specs.Disk.{Step, asks_length, reads, writes, syncs, DeviceCall, History, content_after, synced_content_after, unsynced_ranges_after, content, synced_content, unsynced_ranges, with_write, is_within, is_touched, MayLeave}
-use Rattle.crash_disk.specs.Outcomes.{image_after, mix_of, mix_byte}
+use Rattle.crash_disk.proofs.Words.{◌≡◌, ◌⊎◌, ◌<◌, ◌≤◌, ◌+◌, ℕ, Bool, true, false, ◌||◌, List, [], ◌∷◌, ◌++◌, length, take, get_or, map, suc, zero, cond, refl, sym, ◌∙◌, ap, inl, inr, arith, length-append, length-take, cases_lt, le-leb, lt-ltb, nat_tests, append-nil, get_or_append_left, get_or-append_right, get_or-take, get_or-drop, list_any-append, length-map-range_with_len, get_or-map-range_with_len, list_any, count_by, range_with_len, same_number_lists, common_steps, sum_by-append, Step, asks_length, reads, writes, syncs, DeviceCall, History, content_after, synced_content_after, unsynced_ranges_after, with_write, is_within, is_touched, MayLeave, image_after, mix_of, mix_byte, Old, New, Mix}
 use Rattle.crash_disk.specs.declared.outcome.Outcome.{Outcome}
-use Rattle.crash_disk.specs.declared.outcome.Outcome.TheVariants.{Old, New, Mix}
 
 -- a place that isn't touched has a synced byte and is in no range
 not_touched : (bytes : List ℕ) (ranges : List (ℕ × ℕ)) (place : ℕ) → is_touched bytes ranges place ≡ false
     → (place < length bytes) × (list_any (is_within place) ranges ≡ false)
-not_touched bytes ranges place is = elim (cases_lt place (length bytes)) [
-  | inl lt ↦ let out : leb (length bytes) place ≡ false =
-      grind (arith, nat_tests) in (lt, ap (λ (b : Bool). b || list_any (is_within place) ranges) (sym out) ∙ is)
-  | inr le ↦ let t = le-leb _ _ le in absurd
-      (cc (sym (ap (λ (b : Bool). b || list_any (is_within place) ranges) t) ∙ is))
-]
+not_touched bytes ranges place is = grind (arith, common_steps, cases_lt, nat_tests, le-leb) steps 20000
 
 either : (a b : Bool) → (a || b) ≡ false → (a ≡ false) × (b ≡ false)
-either true b is = absurd (cc (is))
-either false b is = (refl, is)
+either a b is = grind (arith, common_steps) steps 20000
 
 -- a write leaves what is outside its range
 pub with_write_outside : (old : List ℕ) (at : ℕ) (bytes : List ℕ) (place : ℕ) → place < length old
@@ -33,34 +16,20 @@ pub with_write_outside : (old : List ℕ) (at : ℕ) (bytes : List ℕ) (place :
 with_write_outside old at bytes place lt out = elim (cases_lt place at) [
   | inl before ↦
       let in_take : place < length (take at old) = omega (arith, length-take at old) in
-      get_or_append_left (take at old ++ bytes) (drop (at + length bytes) old) 0 place
-      (omega (arith, length-append (take at old) bytes))
-      ∙ get_or_append_left (take at old) bytes 0 place in_take
-      ∙ get_or-take at old place 0 before
+      grind (arith, common_steps, get_or_append_left, get_or-take) steps 20000
   | inr from ↦
       let past : at + length bytes ≤ place = behind from (cases_lt place (at + length bytes)) in
       let len : length (take at old ++ bytes) ≡ at + length bytes =
       omega (arith, length-append (take at old) bytes, length-take at old) in
-      get_or-append_right (take at old ++ bytes) (drop (at + length bytes) old) (at + length bytes) place 0 len past
-      ∙ get_or-drop (at + length bytes) old (place - (at + length bytes)) 0
-      ∙ (let same : at + length bytes + (place - (at + length bytes)) ≡ place =
-      omega arith in ap (λ (k : ℕ). get_or old k 0) same)
+      grind (arith, common_steps, get_or-append_right, get_or-drop) steps 20000
 ]
   where
     behind : at ≤ place → (place < at + length bytes) ⊎ (at + length bytes ≤ place) → at + length bytes ≤ place
     behind from (inr past) = past
-    behind from (inl within) = absurd
-        (cc (sym out ∙ (λ i. le-leb at place from i && lt-ltb place (at + length bytes) within i)))
+    behind from (inl within) = grind (arith, common_steps, le-leb, lt-ltb) steps 20000
 
 pub length-with_write : (old : List ℕ) (at : ℕ) (bytes : List ℕ) → length old ≤ length (with_write old at bytes)
-length-with_write old at bytes =
-    omega (
-      arith,
-      length-append (take at old ++ bytes) (drop (at + length bytes) old),
-      length-append (take at old) bytes,
-      length-take at old,
-      length-drop (at + length bytes) old,
-    )
+length-with_write old at bytes = grind (arith, common_steps) steps 20000
 
 -- the synced bytes are no longer than those that the disk holds
 no_longer_call : (step : Step) (failed : Bool) (began : List ℕ) (calls : List DeviceCall)
@@ -112,31 +81,10 @@ length-mix_of bytes ranges pattern growth =
     length-map-range_with_len (mix_byte bytes ranges pattern) 0 (length bytes + growth)
 
 pub outcomes : (outcome : Outcome) (history : History) → MayLeave history (image_after outcome history)
-outcomes Old history = record {
-  no_shorter = omega arith;
-  no_longer = synced_no_longer history.began history.calls;
-  untouched = λ place out. refl;
-}
-outcomes New history = record {
-  no_shorter = synced_no_longer history.began history.calls;
-  no_longer = omega arith;
-  untouched = λ place out. let parts =
-      not_touched (synced_content history)
-      (unsynced_ranges history) place out in keeps history.began history.calls place parts.0 parts.1;
-}
+outcomes Old history = grind (arith, common_steps, synced_no_longer) steps 20000
+outcomes New history = grind (arith, common_steps, synced_no_longer, not_touched, keeps) steps 20000
 outcomes (Mix extra pattern) history =
-    let bytes = synced_content history in
-    let growth = min extra (length (content history) - length bytes) in
-    let len = length-mix_of bytes (unsynced_ranges history) pattern growth in
-    record {
-      no_shorter = omega (arith, len);
-      no_longer = omega (arith, len, synced_no_longer history.began history.calls);
-      untouched = λ place out.
-          let parts = not_touched bytes (unsynced_ranges history) place out in
-          get_or-map-range_with_len (mix_byte bytes (unsynced_ranges history) pattern) 0
-          (length bytes + growth) place place 0 (omega (arith, parts.0)) (omega arith)
-          ∙ (let e : mix_byte bytes (unsynced_ranges history) pattern place ≡ get_or bytes place 0 = rw out refl in e);
-    }
+    grind (arith, common_steps, length-mix_of, synced_no_longer, not_touched, get_or-map-range_with_len) steps 20000
 
 -- nothing to count
 pub none_below : (p : ℕ → Bool) (a n : ℕ) → ((k : ℕ) → a ≤ k → k < a + n → p k ≡ false)
@@ -162,6 +110,4 @@ mix-front bytes ranges pattern first within none =
     (λ place lt.
     let lt' : place < first = omega (arith, lt, len) in
     let out = none place lt' in
-    let same : byte place ≡ get_or bytes place 0 = rw out refl in
-    get_or-take first bytes place 0 lt'
-    ∙ sym (get_or-map-range_with_len byte 0 first place place 0 lt' (omega arith) ∙ same))
+    grind (arith, common_steps, get_or-take, get_or-map-range_with_len) steps 20000)

@@ -1,11 +1,5 @@
 -- What a crash leaves where nothing is written since the sync, or nothing at all.
-use Rattle.std.proofs.Common.{◌≡◌, ◌<◌, ℕ, Bool, true, false, List, [], ◌∷◌, length, get_or, refl, sym, ◌∙◌, ap, arith, length-append}
-use Rattle.std.proofs.lemmas.Bool.Decides.{nat_tests}
-use Rattle.std.proofs.lemmas.Grind.{same_number_lists}
-use Rattle.std.proofs.lemmas.List.{append-nil}
-use Rattle.crash_disk.specs.Disk.{Step, asks_length, reads, writes, syncs, DeviceCall, synced_content, content_after, synced_content_after, unsynced_ranges_after, is_touched}
-use Rattle.crash_disk.specs.declared.outcome.Outcome.TheVariants.{New}
-use Rattle.crash_disk.specs.Laws.{ContentMayBeLeft, SyncedContentIsLeft, FreshDiskLeavesItself}
+use Rattle.crash_disk.proofs.Words.{◌≡◌, ℕ, Bool, true, false, List, [], ◌∷◌, length, get_or, refl, sym, ◌∙◌, ap, arith, length-append, nat_tests, same_number_lists, common_steps, append-nil, Step, asks_length, reads, writes, syncs, DeviceCall, content_after, synced_content_after, unsynced_ranges_after, is_touched, New, ContentMayBeLeft, SyncedContentIsLeft, FreshDiskLeavesItself}
 use Rattle.crash_disk.proofs.Images.{outcomes}
 
 pub content_may_be_left : ContentMayBeLeft
@@ -31,17 +25,11 @@ synced_is_content began (call ∷ calls) = all_call call.step call.failed began 
 -- where no range is touched, the bytes stay
 pub untouched_same : (bytes image : List ℕ) → length image ≡ length bytes
     → ((place : ℕ) → is_touched bytes [] place ≡ false → get_or image place 0 ≡ get_or bytes place 0) → image ≡ bytes
-untouched_same bytes image len same =
-    same_number_lists image bytes len
-    (λ place lt. same place (let lt' : place < length bytes = omega (arith, lt, len) in grind (arith, nat_tests)))
+untouched_same bytes image len same = grind (arith, common_steps, same_number_lists, nat_tests) steps 20000
 
 pub synced_content_is_left : SyncedContentIsLeft
 synced_content_is_left history image none may =
-    let all = synced_is_content history.began history.calls none in
-    untouched_same (synced_content history) image (omega (arith, may.no_shorter, may.no_longer, ap length all))
-    (λ place out. may.untouched place
-    (ap (λ (r : List (ℕ × ℕ)). is_touched (synced_content history) r place) none ∙ out))
-    ∙ all
+    grind (arith, common_steps, synced_is_content, untouched_same) steps 20000
 
 pub fresh_disk_leaves_itself : FreshDiskLeavesItself
 fresh_disk_leaves_itself began image may = synced_content_is_left (record { began = began; calls = [] }) image refl may

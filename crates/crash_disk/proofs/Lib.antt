@@ -1,3 +1,4 @@
+pub mod Words
 pub mod Images
 pub mod Left
 pub mod Plans

@@ -1,11 +1,6 @@
 -- What a plan of faults says of calls to come.
-use Rattle.std.proofs.Common.{◌≡◌, ℕ, zero, suc, ◌+◌, ◌-◌, ◌==◌, ◌||◌, min, Bool, true, false, cond, List, [], Option, Some, None, refl, sym, ◌∙◌, ap, arith}
-use Rattle.std.proofs.lemmas.Bool.Decides.{nat_tests}
-use Rattle.std.specs.Option.{option_map, option_map_or}
+use Rattle.crash_disk.proofs.Words.{◌≡◌, ℕ, zero, suc, ◌+◌, ◌-◌, ◌==◌, ◌||◌, min, Bool, true, false, cond, List, [], Some, None, refl, ◌∙◌, ap, arith, nat_tests, option_map, common_steps, FaultPlan, is_spent, fails_first, after_one, after_calls, passing, MemState, listed_at, plan_of, AfterCalls, NextPassByFuse, PassesByFuse}
 use Rattle.plasma_base.specs.Causes.{counted}
-use Rattle.crash_disk.specs.Disk.{FaultPlan, is_spent, fails_first, after_one, after_calls, passing}
-use Rattle.crash_disk.specs.Memory.{MemState, listed_at, plan_of}
-use Rattle.crash_disk.specs.Laws.{AfterCalls, NextPassByFuse, PassesByFuse}
 
 -- the calls that pass, where the next one fails
 pub passing-fails : (count : ℕ) (plan : FaultPlan) → fails_first plan ≡ true → passing (suc count) plan ≡ 0
@@ -44,38 +39,23 @@ pub listed-after_calls : (count n : ℕ) (plan : FaultPlan) → (after_calls cou
 unfolding after_calls
 listed-after_calls zero n plan = (let e : n ≡ 0 + n = omega arith in ap plan.listed e)
 listed-after_calls (suc count) n plan =
-    listed-after_calls count n (after_one plan)
-    ∙ (let e : suc (count + n) ≡ suc count + n = omega arith in ap plan.listed e)
+    grind (arith, common_steps, listed-after_calls count n (after_one plan)) steps 20000
 
 pub fuse-after_calls : (count : ℕ) (plan : FaultPlan)
     → (after_calls count plan).fuse ≡ option_map (λ calls. calls - count) plan.fuse
 unfolding after_calls
-fuse-after_calls zero plan = sym (less_nothing plan.fuse)
-  where
-    less_nothing : (fuse : Option ℕ) → option_map (λ calls. calls - 0) fuse ≡ fuse
-    less_nothing None = refl
-    less_nothing (Some calls) = (let e : calls - 0 ≡ calls = omega arith in ap (λ (n : ℕ). Some n) e)
-fuse-after_calls (suc count) plan = fuse-after_calls count (after_one plan) ∙ less_more plan.fuse
-  where
-    less_more : (fuse : Option ℕ)
-        → option_map (λ calls. calls - count) (option_map (λ calls. calls - 1) fuse) ≡ option_map
-        (λ calls. calls - suc count) fuse
-    less_more None = refl
-    less_more (Some calls) = (let e : calls - 1 - count ≡ calls - suc count = omega arith in ap (λ (n : ℕ). Some n) e)
+fuse-after_calls zero plan = grind (arith, common_steps) steps 20000
+fuse-after_calls (suc count) plan = grind (arith, common_steps, fuse-after_calls count (after_one plan)) steps 20000
 
 -- a fuse of so many lets so many pass
 pub passing-fuse : (count calls : ℕ) (plan : FaultPlan) → ((n : ℕ) → plan.listed n ≡ false) → plan.fuse ≡ Some calls
     → passing count plan ≡ min count calls
 passing-fuse zero calls plan none fuse = passing-zero plan ∙ omega arith
-passing-fuse (suc count) zero plan none fuse =
-    let fails : fails_first plan ≡ true = ap (λ f. is_spent f || plan.listed 0) fuse in
-    omega (arith, passing-fails count plan fails)
+passing-fuse (suc count) zero plan none fuse = grind (arith, common_steps, passing-fails) steps 20000
 passing-fuse (suc count) (suc calls) plan none fuse =
     let some : (suc calls == 0) ≡ false = grind (arith, nat_tests) in
     let passes : fails_first plan ≡ false = ap (λ f. is_spent f || plan.listed 0) fuse ∙ (λ i. some i || none 0 i) in
-    let on : (after_one plan).fuse ≡ Some calls =
-    ap (option_map (λ calls. calls - 1)) fuse
-    ∙ (let e : suc calls - 1 ≡ calls = omega arith in ap (λ (n : ℕ). Some n) e) in
+    let on : (after_one plan).fuse ≡ Some calls = grind (arith, common_steps) steps 20000 in
     omega (arith, passing-passes count plan passes, passing-fuse count calls (after_one plan) (λ n. none (suc n)) on)
 
 pub passing-no_fuse : (count : ℕ) (plan : FaultPlan) → ((n : ℕ) → plan.listed n ≡ false) → plan.fuse ≡ None
@@ -92,24 +72,12 @@ plan_after count plan = ((λ n. listed-after_calls count n plan), fuse-after_cal
 
 -- a fuse lets so many of the next calls pass
 pub next_by_fuse : NextPassByFuse
-next_by_fuse plan count none = by_fuse plan.fuse refl
-  where
-    by_fuse : (fuse : Option ℕ) → plan.fuse ≡ fuse → passing count plan ≡ option_map_or (min count) fuse count
-    by_fuse None is = passing-no_fuse count plan none is
-    by_fuse (Some calls) is = passing-fuse count calls plan none is
+next_by_fuse plan count none = grind (arith, common_steps, passing-no_fuse, passing-fuse) steps 20000
 
 -- what is left of a fuse lets so many more pass
 pub passing-by_fuse : PassesByFuse
 passing-by_fuse plan made count none =
-    next_by_fuse (after_calls made plan) count (λ n. listed-after_calls made n plan ∙ none (made + n))
-    ∙ ap (λ (fuse : Option ℕ). option_map_or (min count) fuse count) (fuse-after_calls made plan)
-    ∙ less plan.fuse
-  where
-    less : (fuse : Option ℕ)
-        → option_map_or (min count) (option_map (λ calls. calls - made) fuse) count
-        ≡ option_map_or (λ calls. min count (calls - made)) fuse count
-    less None = refl
-    less (Some calls) = refl
+    grind (arith, common_steps, next_by_fuse, listed-after_calls, fuse-after_calls) steps 20000
 
 -- an empty list lists no call
 pub none_listed : (disk : MemState) → disk.fails ≡ [] → (n : ℕ) → (plan_of disk).listed n ≡ false

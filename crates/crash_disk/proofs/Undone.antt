@@ -1,8 +1,5 @@
 -- Writes undone: what a write more, undone, makes of them.
-use Rattle.std.proofs.Common.{◌≡◌, ◌<◌, ◌≤◌, ◌+◌, ◌-◌, ℕ, zero, suc, List, [], ◌∷◌, ◌++◌, length, take, drop, get_or, slice_index, refl, sym, ◌∙◌, ap, subst, arith, length-append, length-take, length-drop}
-use Rattle.std.proofs.lemmas.List.{append_assoc, get_or_append_left, get_or-append_right, take_at, drop_at, drop-drop, take-append-drop}
-use Rattle.crash_disk.specs.Disk.{with_write}
-use Rattle.crash_disk.specs.Undo.{before_write, IsReplaced, undone, IsUndoable}
+use Rattle.crash_disk.proofs.Words.{◌≡◌, ◌<◌, ◌≤◌, ◌+◌, ◌-◌, ℕ, zero, suc, List, [], ◌∷◌, ◌++◌, length, take, drop, get_or, slice_index, refl, sym, ◌∙◌, ap, subst, arith, length-append, length-take, append_assoc, get_or_append_left, get_or-append_right, take_at, drop_at, drop-drop, take-append-drop, common_steps, with_write, before_write, IsReplaced, undone, IsUndoable}
 
 -- what a write replaces
 abbrev pub replaced_by : List ℕ → ℕ → List ℕ → List ℕ
@@ -16,38 +13,17 @@ before_with_write old place bytes fits =
     let piece = replaced_by old place bytes in
     let len : length (take place old) ≡ place = omega (arith, length-take place old, fits) in
     let front : take place (with_write old place bytes) ≡ take place old =
-    ap (λ (l : List ℕ). take place l) (append_assoc (take place old) bytes rest)
-    ∙ take_at (take place old) (bytes ++ rest) place len in
+    grind (arith, common_steps, append_assoc, take_at) steps 20000 in
     let back : drop (place + length bytes) (with_write old place bytes) ≡ rest =
-    drop_at (take place old ++ bytes) rest (place + length bytes)
-    (omega (arith, length-append (take place old) bytes, len)) in
+    grind (arith, common_steps, drop_at) steps 20000 in
     let behind : piece ++ rest ≡ drop place old =
     ap (λ (l : List ℕ). piece ++ l) (sym (drop-drop (length bytes) place old))
     ∙ take-append-drop (length bytes) (drop place old) in
-    (λ i. front i ++ piece ++ back i)
-    ∙ append_assoc (take place old) piece rest
-    ∙ ap (λ (l : List ℕ). take place old ++ l) behind
-    ∙ take-append-drop place old
+    grind (arith, common_steps, front, back, append_assoc, take-append-drop) steps 20000
 
 pub is_replaced : (old : List ℕ) (place : ℕ) (bytes : List ℕ) → place ≤ length old
     → IsReplaced (place, length bytes) (replaced_by old place bytes) (with_write old place bytes)
-is_replaced old place bytes fits =
-    let piece = length-take (length bytes) (drop place old) in
-    let rest = length-drop place old in
-    let len : length (with_write old place bytes) ≡ place + length bytes + (length old - (place + length bytes)) =
-    omega (
-      arith,
-      fits,
-      length-append (take place old ++ bytes) (drop (place + length bytes) old),
-      length-append (take place old) bytes,
-      length-take place old,
-      length-drop (place + length bytes) old,
-    ) in
-    record {
-      within = omega (arith, piece, rest, len, fits);
-      no_longer = omega (arith, piece);
-      ends = λ less. omega (arith, less, piece, rest, len, fits);
-    }
+is_replaced old place bytes fits = grind (arith, common_steps) steps 20000
 
 -- the writes behind so many don't matter for these
 undone_front : (count : ℕ) (ranges : List (ℕ × ℕ)) (starts : List ℕ) (range : ℕ × ℕ) (start : ℕ)
@@ -58,8 +34,7 @@ undone_front zero ranges starts range start replaced bytes some same = refl
 undone_front (suc count) ranges starts range start replaced bytes some same =
     let here = get_or_append_left ranges (range ∷ []) (0, 0) count (omega (arith, some)) in
     let there = get_or_append_left starts (start ∷ []) 0 count (omega (arith, same)) in
-    (λ i. undone count (ranges ++ range ∷ []) (starts ++ start ∷ []) (take (there i) replaced)
-    (before_write (here i) (drop (there i) replaced) bytes))
+    (grind (arith, common_steps, count, there, here) steps 20000)
     ∙ undone_front count ranges starts range start (take (slice_index starts count) replaced)
     (before_write (get_or ranges count (0, 0)) (drop (slice_index starts count) replaced) bytes)
     (omega (arith, some)) (omega (arith, same))
@@ -83,8 +58,7 @@ undoable_front (suc count) ranges starts range start replaced bytes some same ar
     let rest = undoable_front count ranges starts range start (take (slice_index starts count) replaced)
     (before_write (get_or ranges count (0, 0)) (drop (slice_index starts count) replaced) bytes)
     (omega (arith, some)) (omega (arith, same)) are.2 in
-    let moved = subst (λ (n : ℕ). Last n (get_or ranges count (0, 0))) (sym there) (are.0, are.1, rest) in
-    subst (λ (r : ℕ × ℕ). Last (slice_index (starts ++ start ∷ []) count) r) (sym here) moved
+    grind (arith, common_steps, count, there, here) steps 20000
 
 -- the newest of some writes, and those before it
 pub undoable_newest : (count : ℕ) (ranges : List (ℕ × ℕ)) (starts replaced bytes : List ℕ) → 0 < count
@@ -104,15 +78,11 @@ pub undone_newest : (count : ℕ) (ranges : List (ℕ × ℕ)) (starts replaced 
 undone_newest zero ranges starts replaced bytes some = absurd (omega (arith, some))
 undone_newest (suc count) ranges starts replaced bytes some =
     let less : suc count - 1 ≡ count = omega arith in
-    ap (λ (n : ℕ). undone n ranges starts (take (slice_index starts n) replaced)
-    (before_write (get_or ranges n (0, 0)) (drop (slice_index starts n) replaced) bytes)) less
+    grind (arith, common_steps) steps 20000
 
 last_of : {A : Type 0} (list : List A) (last other : A) (n : ℕ) → length list ≡ n
     → get_or (list ++ last ∷ []) n other ≡ last
-last_of list last other n is =
-    let none : n - n ≡ 0 = omega arith in
-    get_or-append_right list (last ∷ []) n n other is (omega arith)
-    ∙ ap (λ (k : ℕ). get_or (last ∷ []) k other) none
+last_of list last other n is = grind (arith, common_steps, get_or-append_right) steps 20000
 
 -- one more write of these bytes at this place
 module _ (ranges : List (ℕ × ℕ)) (starts replaced old : List ℕ) (place : ℕ) (bytes : List ℕ)
@@ -139,8 +109,7 @@ module _ (ranges : List (ℕ × ℕ)) (starts replaced old : List ℕ) (place : 
   back = drop_at replaced piece (length replaced) refl
 
   before : before_write range (drop (length replaced) (replaced ++ piece)) (with_write old place bytes) ≡ old
-  before = ap (λ (l : List ℕ). before_write range l (with_write old place bytes)) back
-      ∙ before_with_write old place bytes fits
+  before = grind (arith, common_steps, back, before_with_write) steps 20000
 
   pub undone_write : undone (length (ranges ++ range ∷ [])) (ranges ++ range ∷ []) (starts ++ length replaced ∷ [])
       (replaced ++ piece) (with_write old place bytes)
@@ -148,9 +117,7 @@ module _ (ranges : List (ℕ × ℕ)) (starts replaced old : List ℕ) (place : 
   undone_write =
       ap (λ (n : ℕ). undone n (ranges ++ range ∷ []) (starts ++ length replaced ∷ []) (replaced ++ piece)
       (with_write old place bytes)) count
-      ∙ (λ i. undone (length ranges) (ranges ++ range ∷ []) (starts ++ length replaced ∷ [])
-      (take (there i) (replaced ++ piece))
-      (before_write (here i) (drop (there i) (replaced ++ piece)) (with_write old place bytes)))
+      ∙ (grind (arith, common_steps, there, here) steps 20000)
       ∙ (λ i. undone (length ranges) (ranges ++ range ∷ []) (starts ++ length replaced ∷ []) (front i) (before i))
       ∙ undone_front (length ranges) ranges starts range (length replaced) replaced old (omega arith)
       (omega (arith, same))
@@ -165,11 +132,4 @@ module _ (ranges : List (ℕ × ℕ)) (starts replaced old : List ℕ) (place : 
       let newest = subst (λ (l : List ℕ). IsReplaced range l new) (sym back) (is_replaced old place bytes fits) in
       let older = undoable_front (length ranges) ranges starts range (length replaced) replaced old (omega arith)
       (omega (arith, same)) are in
-      let all = IsUndoable (length ranges) (ranges ++ range ∷ []) (starts ++ length replaced ∷ []) in
-      let front_too = subst (λ (l : List ℕ). all l old) (sym front) older in
-      let rest = subst (λ (l : List ℕ). all (take (length replaced) (replaced ++ piece)) l) (sym before) front_too in
-      let moved = subst (λ (n : ℕ). Last n range) (sym there) (len, newest, rest) in
-      let last = subst (λ (r : ℕ × ℕ). Last (slice_index (starts ++ length replaced ∷ []) (length ranges)) r)
-      (sym here) moved in
-      subst (λ (n : ℕ). IsUndoable n (ranges ++ range ∷ []) (starts ++ length replaced ∷ []) (replaced ++ piece) new)
-      (sym count) last
+      grind (arith, common_steps, front, before, there, here, count) steps 20000

@@ -1,6 +1,4 @@
-use Rattle.std.proofs.Common.{false, true, List, ◌∙◌, ap, arith}
-use Rattle.std.proofs.lemmas.Result.{err_from_is_err_and}
-use Rattle.crash_disk.specs.FileCalls.{FileCall, makes, reaches, asked}
+use Rattle.crash_disk.proofs.Words.{false, true, List, ◌∙◌, ap, arith, err_from_is_err_and, FileCall, makes, reaches, asked}
 use Rattle.crash_disk.proofs.disk_over.put.Goals as goal
 
 pub returns-in_err-reach-clause-made : goal.returns-in_err-reach-clause-made

@@ -1,6 +1,4 @@
-use Rattle.std.proofs.Common.{◌≡◌, Bool, false, true, sym, ◌∙◌, ap, arith}
-use Rattle.std.proofs.lemmas.Result.{err_from_is_err_and}
-use Rattle.crash_disk.specs.FileCalls.{finds, asked}
+use Rattle.crash_disk.proofs.Words.{◌≡◌, Bool, false, true, sym, ◌∙◌, ap, arith, err_from_is_err_and, finds, asked}
 use Rattle.crash_disk.proofs.Held.{sync_more}
 use Rattle.crash_disk.proofs.disk_over.synced.Goals as goal
 

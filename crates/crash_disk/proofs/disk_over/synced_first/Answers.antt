@@ -1,6 +1,4 @@
-use Rattle.std.proofs.Common.{false, true, List, ◌∙◌, ap, arith}
-use Rattle.std.proofs.lemmas.Result.{err_from_is_err_and}
-use Rattle.crash_disk.specs.FileCalls.{FileCall, syncs_bytes, syncs_name, marked, asked}
+use Rattle.crash_disk.proofs.Words.{false, true, List, ◌∙◌, ap, arith, err_from_is_err_and, FileCall, syncs_bytes, syncs_name, marked, asked}
 use Rattle.crash_disk.proofs.disk_over.synced_first.Goals as goal
 
 pub returns-in_err-name_synced-clause-made : goal.returns-in_err-name_synced-clause-made

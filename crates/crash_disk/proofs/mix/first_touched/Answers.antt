@@ -1,9 +1,5 @@
-use Rattle.std.proofs.Common.{◌≡◌, ◌<◌, ◌||◌, ◌&&◌, ℕ, ◌+◌, Bool, false, leb, ltb, length, get_or, arith, ap, ◌∙◌}
-use Rattle.std.specs.List.{list_any}
-use Rattle.std.proofs.lemmas.Bool.Decides.{nat_tests}
+use Rattle.crash_disk.proofs.Words.{◌≡◌, ◌<◌, ◌||◌, ◌&&◌, ℕ, ◌+◌, Bool, false, leb, ltb, length, get_or, arith, ap, ◌∙◌, list_any, nat_tests, list_any_none, is_within}
 use Rattle.std.proofs.lemmas.List.Elements.{All-from_get_or}
-use Rattle.std.proofs.lemmas.List.Folds.{list_any_none}
-use Rattle.crash_disk.specs.Disk.{is_within}
 use Rattle.crash_disk.proofs.mix.first_touched.Goals as goal
 
 outside : (place start count : ℕ) → place < start → (leb start place && ltb place (start + count)) ≡ false

@@ -1,11 +1,4 @@
-use Rattle.std.proofs.Common.{◌≡◌, ◌+◌, ◌%◌, ℕ, Bool, true, false, refl, cond, List, [], ◌∷◌, ◌++◌, length, take, slice_index, sym, ◌∙◌, ap, arith}
-use Rattle.std.proofs.lemmas.List.FromFn.{map-range_with_len_more}
-use Rattle.std.proofs.lemmas.List.{map-id}
-use Rattle.std.proofs.lemmas.List.Sums.{sum_by-append}
-use mir.Val.{bool_byte}
-use Rattle.std.specs.List.{range_with_len, count_by}
-use Rattle.crash_disk.specs.Disk.{is_touched}
-use Rattle.crash_disk.specs.Outcomes.{mix_byte}
+use Rattle.crash_disk.proofs.Words.{◌≡◌, ◌+◌, ◌%◌, ℕ, Bool, true, false, refl, cond, List, [], ◌∷◌, ◌++◌, length, take, slice_index, sym, ◌∙◌, ap, arith, map-range_with_len_more, map-id, sum_by-append, bool_byte, range_with_len, count_by, is_touched, mix_byte}
 use Rattle.crash_disk.proofs.Images.{none_below, mix-front}
 use Rattle.crash_disk.proofs.mix.mix.Goals as goal
 

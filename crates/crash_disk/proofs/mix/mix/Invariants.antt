@@ -1,7 +1,4 @@
-use Rattle.std.proofs.Common.{◌≡◌, map}
-use Rattle.std.specs.List.{count_by, range_with_len}
-use Rattle.crash_disk.specs.Disk.{is_touched}
-use Rattle.crash_disk.specs.Outcomes.{mix_byte}
+use Rattle.crash_disk.proofs.Words.{◌≡◌, map, count_by, range_with_len, is_touched, mix_byte}
 use Rattle.crash_disk.proofs.mix.mix.Given as goal
 
 abbrev pub invariant-loop-place : goal.invariant-loop-place

@@ -1,5 +1,4 @@
-use Rattle.std.proofs.Common.{◌-◌, ℕ, List, take, get_or, slice_index, sym, ◌∙◌, ap, subst}
-use Rattle.crash_disk.specs.Undo.{before_write, undone, IsUndoable}
+use Rattle.crash_disk.proofs.Words.{◌-◌, ℕ, List, take, get_or, slice_index, sym, ◌∙◌, ap, subst, before_write, undone, IsUndoable}
 use Rattle.crash_disk.proofs.Undone.{undoable_newest, undone_newest}
 use Rattle.crash_disk.proofs.undo.undo.Goals as goal
 

@@ -1,5 +1,4 @@
-use Rattle.std.proofs.Common.{◌≡◌, length}
-use Rattle.crash_disk.specs.Undo.{undone, IsUndoable}
+use Rattle.crash_disk.proofs.Words.{◌≡◌, length, undone, IsUndoable}
 use Rattle.crash_disk.proofs.undo.undo.Given as goal
 
 abbrev pub invariant-loop-index : goal.invariant-loop-index

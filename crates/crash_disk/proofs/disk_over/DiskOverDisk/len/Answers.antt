@@ -1,5 +1,4 @@
-use Rattle.std.proofs.Common.{◌≡◌, ℕ, List, length, is_err, sym, ◌∙◌}
-use Rattle.crash_disk.specs.Disk.{asks_length}
+use Rattle.crash_disk.proofs.Words.{◌≡◌, ℕ, List, length, is_err, sym, ◌∙◌, asks_length}
 use Rattle.crash_disk.proofs.Held.{told_answer, are_after}
 use Rattle.crash_disk.proofs.disk_over.DiskOverDisk.len.Goals as goal
 

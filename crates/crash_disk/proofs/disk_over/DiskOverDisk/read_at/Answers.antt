@@ -1,5 +1,4 @@
-use Rattle.std.proofs.Common.{◌≡◌, ℕ, List, length, take, drop, is_err, sym, ◌∙◌}
-use Rattle.crash_disk.specs.Disk.{reads}
+use Rattle.crash_disk.proofs.Words.{◌≡◌, ℕ, List, length, take, drop, is_err, sym, ◌∙◌, reads}
 use Rattle.crash_disk.proofs.Held.{told_done, are_after}
 use Rattle.crash_disk.proofs.disk_over.DiskOverDisk.read_at.Goals as goal
 

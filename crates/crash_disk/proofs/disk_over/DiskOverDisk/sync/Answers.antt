@@ -1,5 +1,4 @@
-use Rattle.std.proofs.Common.{Bool, ◌||◌, is_err, sym, ◌∙◌, ap}
-use Rattle.crash_disk.specs.Disk.{syncs}
+use Rattle.crash_disk.proofs.Words.{Bool, ◌||◌, is_err, sym, ◌∙◌, ap, syncs}
 use Rattle.crash_disk.proofs.Held.{are_after}
 use Rattle.crash_disk.proofs.disk_over.DiskOverDisk.sync.Goals as goal
 

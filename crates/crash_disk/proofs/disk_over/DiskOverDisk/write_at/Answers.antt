@@ -1,5 +1,4 @@
-use Rattle.std.proofs.Common.{is_err, sym, ◌∙◌}
-use Rattle.crash_disk.specs.Disk.{writes}
+use Rattle.crash_disk.proofs.Words.{is_err, sym, ◌∙◌, writes}
 use Rattle.crash_disk.proofs.Held.{are_after}
 use Rattle.crash_disk.proofs.disk_over.DiskOverDisk.write_at.Goals as goal
 

@@ -1,7 +1,4 @@
-use Rattle.std.proofs.Common.{◌≡◌, length, ◌∙◌, ap, arith}
-use Rattle.crash_disk.specs.Disk.{content, synced_content}
-use Rattle.crash_disk.specs.Memory.{MemState}
-use Rattle.crash_disk.specs.Undo.{undone}
+use Rattle.crash_disk.proofs.Words.{◌≡◌, length, ◌∙◌, ap, arith, content, synced_content, MemState, undone}
 use Rattle.crash_disk.proofs.Images.{synced_no_longer}
 use Rattle.crash_disk.proofs.memory.MemDisk.synced.Goals as goal
 

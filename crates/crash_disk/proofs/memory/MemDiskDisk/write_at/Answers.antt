@@ -1,7 +1,4 @@
-use Rattle.std.proofs.Common.{rules, ◌≡◌, ◌≤◌, ℕ, List, [], ◌∷◌, ◌++◌, length, sym, ◌∙◌, ap, arith, length-append}
-use Rattle.crash_disk.specs.Disk.{with_write, content, synced_content, unsynced_ranges}
-use Rattle.crash_disk.specs.Memory.{MemState}
-use Rattle.crash_disk.specs.Undo.{undone}
+use Rattle.crash_disk.proofs.Words.{rules, ◌≡◌, ◌≤◌, ℕ, List, [], ◌∷◌, ◌++◌, length, sym, ◌∙◌, ap, arith, length-append, with_write, content, synced_content, unsynced_ranges, MemState, undone}
 use Rattle.crash_disk.proofs.Undone.{replaced_by, undone_write, undoable_write}
 use Rattle.crash_disk.proofs.memory.MemDiskDisk.write_at.Goals as goal
 

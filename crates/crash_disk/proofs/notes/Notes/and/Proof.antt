@@ -1,23 +1,5 @@
 -- `and` makes the empty struct, at the calls that its clause names. Assumes `Logic`.
-use Rattle.std.proofs.Common.{[], ◌∷◌, refl}
-use Rattle.std.proofs.raw_atomic.Walks.{proved}
-use mir.Syntax.{named}
-use mir.Val.{vstruct, vnil}
-use types.Kit.{‵, raw, ◌⊛◌, ◌$◌, ◌∵◌, !, qed, move, keep, split, suffices, done}
-use types.Part.{agg}
-use types.Run.{enter, returns, no_more}
-use types.ByLocal.{alloc_all, pass_all, free_all, look_at, sets}
-use denote.Builtin.{bool}
-use denote.Exit.{yes}
-use denote.Plain.{bool_vals, bool_Tells}
-use denote.RattleType.{owns}
-use denote.Ref.{shr_vals, shr_Tells}
-use denote.Shadow.{pure_i}
-use denote.Signature.{plain, types_at, named_lft}
-use denote.Triple.Entry.{alive}
-use denote.Triple.Walked.{says, Stays, stay_none, stay_none_ref, walk_of, ends_at, Goes-none, Goes-none_ref}
-use Rattle.crash_disk.specs.FileCalls.{asked}
-use Rattle.crash_disk.specs.FileCalls.{FilePast}
+use Rattle.crash_disk.proofs.Words.{[], ◌∷◌, refl, proved, named, vstruct, vnil, ‵, raw, ◌⊛◌, ◌$◌, ◌∵◌, !, qed, move, keep, split, suffices, done, agg, enter, returns, no_more, alloc_all, pass_all, free_all, look_at, sets, bool, yes, bool_vals, bool_Tells, owns, shr_vals, shr_Tells, pure_i, plain, types_at, named_lft, alive, says, Stays, stay_none, stay_none_ref, walk_of, ends_at, Goes-none, Goes-none_ref, asked, FilePast}
 use Rattle.crash_disk.specs.FileSteps.{ask_of}
 use Rattle.crash_disk.specs.contracts.notes.FileStep as steps
 use Rattle.crash_disk.specs.contracts.notes.Notes.{the_row}

@@ -1,22 +1,5 @@
 -- `new` makes the empty struct, at the calls that its clause names. Assumes `Logic`.
-use Rattle.std.proofs.Common.{[], ◌∷◌, refl}
-use Rattle.std.proofs.raw_atomic.Walks.{proved}
-use mir.Syntax.{named}
-use mir.Val.{vstruct, vnil}
-use types.Kit.{‵, raw, ◌⊛◌, ◌$◌, ◌∵◌, !, qed, move, keep, split, suffices, done}
-use types.Part.{agg}
-use types.Run.{enter, returns, no_more}
-use types.ByLocal.{alloc_all, pass_all, free_all, look_at, sets}
-use denote.Builtin.{u8, bool}
-use denote.Exit.{yes}
-use denote.Plain.{bool_vals, bool_Tells}
-use denote.RattleType.{owns}
-use denote.Shadow.{pure_i}
-use denote.Signature.{plain, types_at}
-use denote.Slice.{shr_slice_vals, shr_slice_Tells}
-use denote.Triple.Entry.{alive}
-use denote.Triple.Walked.{says, Stays, stay_none, stay_none_slice, walk_of, ends_at, Goes-none, Goes-none_slice}
-use Rattle.crash_disk.specs.FileCalls.{FilePast}
+use Rattle.crash_disk.proofs.Words.{[], ◌∷◌, refl, proved, named, vstruct, vnil, ‵, raw, ◌⊛◌, ◌$◌, ◌∵◌, !, qed, move, keep, split, suffices, done, agg, enter, returns, no_more, alloc_all, pass_all, free_all, look_at, sets, u8, bool, yes, bool_vals, bool_Tells, owns, pure_i, plain, types_at, shr_slice_vals, shr_slice_Tells, alive, says, Stays, stay_none, stay_none_slice, walk_of, ends_at, Goes-none, Goes-none_slice, FilePast}
 use Rattle.crash_disk.specs.contracts.notes.Notes.{the_row}
 use Rattle.crash_disk.specs.contracts.notes.Notes.new as f
 use Rattle.crash_disk.proofs.notes.Notes.new.Statement.{statement}

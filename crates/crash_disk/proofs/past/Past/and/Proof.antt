@@ -1,25 +1,6 @@
 -- `and` makes the empty struct, at the history that its clause names. Assumes `Logic`.
-use Rattle.std.proofs.Common.{[], ◌∷◌, refl}
-use Rattle.std.proofs.raw_atomic.Walks.{proved}
-use mir.Syntax.{named}
-use mir.Val.{vstruct, vnil}
-use types.Kit.{‵, raw, ◌⊛◌, ◌$◌, ◌∵◌, !, qed, move, keep, split, suffices, done}
-use types.Part.{agg}
-use types.Run.{enter, returns, no_more}
-use types.ByLocal.{alloc_all, pass_all, free_all, look_at, sets}
-use denote.Builtin.{bool}
-use denote.Exit.{yes}
-use denote.Plain.{bool_vals, bool_Tells}
-use denote.RattleType.{owns}
-use denote.Ref.{shr_vals, shr_Tells}
-use denote.Shadow.{pure_i}
-use denote.Signature.{plain, types_at, named_lft}
-use denote.Triple.Entry.{alive}
-use denote.Triple.Walked.{says, Stays, stay_none, stay_none_ref, walk_of, ends_at, Goes-none, Goes-none_ref}
-use Rattle.crash_disk.specs.Disk.{History, with_call}
-use Rattle.crash_disk.specs.Memory.{step_of}
+use Rattle.crash_disk.proofs.Words.{[], ◌∷◌, refl, proved, named, vstruct, vnil, ‵, raw, ◌⊛◌, ◌$◌, ◌∵◌, !, qed, move, keep, split, suffices, done, agg, enter, returns, no_more, alloc_all, pass_all, free_all, look_at, sets, bool, yes, bool_vals, bool_Tells, owns, shr_vals, shr_Tells, pure_i, plain, types_at, named_lft, alive, says, Stays, stay_none, stay_none_ref, walk_of, ends_at, Goes-none, Goes-none_ref, History, with_call, step_of, the_row}
 use Rattle.crash_disk.specs.contracts.past.AskedStep as asked
-use Rattle.crash_disk.specs.contracts.past.Past.{the_row}
 use Rattle.crash_disk.specs.contracts.past.Past.and as f
 use Rattle.crash_disk.proofs.past.Past.and.Statement.{statement}
 use Rattle.crash_disk.proofs.past.Past.and.Code as code

@@ -1,22 +1,5 @@
 -- `new` makes the empty struct, at the history that its clause names. Assumes `Logic`.
-use Rattle.std.proofs.Common.{[], ◌∷◌, refl}
-use Rattle.std.proofs.raw_atomic.Walks.{proved}
-use mir.Syntax.{named}
-use mir.Val.{vstruct, vnil}
-use types.Kit.{‵, raw, ◌⊛◌, ◌$◌, ◌∵◌, !, qed, move, keep, split, suffices, done}
-use types.Part.{agg}
-use types.Run.{enter, returns, no_more}
-use types.ByLocal.{alloc_all, pass_all, free_all, look_at, sets}
-use denote.Builtin.{u8}
-use denote.Exit.{yes}
-use denote.RattleType.{owns}
-use denote.Shadow.{pure_i}
-use denote.Signature.{plain, types_at}
-use denote.Slice.{shr_slice_vals, shr_slice_Tells}
-use denote.Triple.Entry.{alive}
-use denote.Triple.Walked.{says, Stays, stay_none_slice, walk_of, ends_at, Goes-none_slice}
-use Rattle.crash_disk.specs.Disk.{History, fresh_history}
-use Rattle.crash_disk.specs.contracts.past.Past.{the_row}
+use Rattle.crash_disk.proofs.Words.{[], ◌∷◌, refl, proved, named, vstruct, vnil, ‵, raw, ◌⊛◌, ◌$◌, ◌∵◌, !, qed, move, keep, split, suffices, done, agg, enter, returns, no_more, alloc_all, pass_all, free_all, look_at, sets, u8, yes, owns, pure_i, plain, types_at, shr_slice_vals, shr_slice_Tells, alive, says, Stays, stay_none_slice, walk_of, ends_at, Goes-none_slice, History, fresh_history, the_row}
 use Rattle.crash_disk.specs.contracts.past.Past.new as f
 use Rattle.crash_disk.proofs.past.Past.new.Statement.{statement}
 use Rattle.crash_disk.proofs.past.Past.new.Code as code
