@@ -3,11 +3,8 @@
 use Rattle.std.specs.Prelude.{◌≡◌, ℕ, zero, suc, ◌+◌, ◌^◌, ◌<◌, ◌≤◌, ◌==◌, true, nat_lt, if◌then◌else◌, List, [], ◌∷◌, ◌++◌, length, slice_range, Result, Ok, Err, is_ok}
 use Rattle.std.specs.Int.{w32, to_be_bytes, from_be_bytes}
 use Rattle.std.specs.List.{All, AllPairs, flat_map}
-use Rattle.plasma_tx.specs.declared.opening.RawOpening.{RawOpening}
-use Rattle.plasma_tx.specs.Spelling.{number_text, number_at, AreBytes}
-use Rattle.coin_history.specs.declared.bundle.Bundle.{Bundle}
-use Rattle.coin_history.specs.declared.refusal.HistoryRefusal.{HistoryRefusal}
-use Rattle.coin_history.specs.declared.refusal.HistoryRefusal.TheVariants.{BadBundle}
+use Rattle.plasma_tx.specs.{declared.opening.RawOpening.{RawOpening}, Spelling.{number_text, number_at, AreBytes}}
+use Rattle.coin_history.specs.{declared.bundle.Bundle.{Bundle}, declared.refusal.HistoryRefusal.{HistoryRefusal}, declared.refusal.HistoryRefusal.TheVariants.{BadBundle}}
 
 -- the four bytes of a length or a count, and the one that stands at a place
 abbrev pub length_text : ℕ → List ℕ

@@ -2,17 +2,10 @@
 -- wrong, the first cause that holds there.
 use Rattle.std.specs.Prelude.{◌≡◌, ℕ, ◌<◌, zero, suc, ◌==◌, ◌&&◌, ◌||◌, not, Bool, true, if◌then◌else◌, nat_lt, nat_le, max, List, [], ◌∷◌, ◌++◌, filter, find, slice_get, Option, Some, None, Result, Ok, Err}
 use Rattle.std.specs.Option.{option_or}
-use Rattle.plasma_tx.specs.declared.opening.RawOpening.{RawOpening}
-use Rattle.plasma_tx.specs.declared.links.Links.{Links}
-use Rattle.plasma_tx.specs.declared.call.RootCall.{RootCall}
-use Rattle.plasma_tx.specs.declared.views.CoinView.{CoinView}
-use Rattle.plasma_tx.specs.Links.{tip_of, last_owner_of}
-use Rattle.plasma_tx.specs.Views.{coin_at}
+use Rattle.plasma_tx.specs.{declared.opening.RawOpening.{RawOpening}, declared.links.Links.{Links}, declared.call.RootCall.{RootCall}, declared.views.CoinView.{CoinView}, Links.{tip_of, last_owner_of}, Views.{coin_at}}
 use Rattle.plasma_tx.specs.Shown.{Tests, Rules, spends, signs}
-use Rattle.coin_history.specs.declared.bundle.Bundle.{Bundle}
-use Rattle.coin_history.specs.declared.refusal.HistoryRefusal.{HistoryRefusal}
-use Rattle.coin_history.specs.declared.refusal.HistoryRefusal.TheVariants.{NoCoin, UnknownBlock, MissingBlock, BadOpening, NotLink, BadSignature, NotAbsent}
-use Rattle.coin_history.specs.History.{is_committed, opens_block, is_absent, transfer_of, links_of}
+use Rattle.coin_history.specs.{declared.bundle.Bundle.{Bundle}, declared.refusal.HistoryRefusal.{HistoryRefusal}}
+use Rattle.coin_history.specs.{declared.refusal.HistoryRefusal.TheVariants.{NoCoin, UnknownBlock, MissingBlock, BadOpening, NotLink, BadSignature, NotAbsent}, History.{is_committed, opens_block, is_absent, transfer_of, links_of}}
 
 -- a cause: whether it holds, and the refusal that it gives
 abbrev pub Cause : Type 0

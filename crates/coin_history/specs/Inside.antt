@@ -1,8 +1,6 @@
 -- What the check's own functions say of the blocks that have to be opened.
 use Rattle.std.specs.Prelude.{◌≡◌, ℕ, ◌<◌, ◌≤◌, Bool, true, false, List}
-use Rattle.plasma_tx.specs.declared.links.Link.{Link}
-use Rattle.plasma_tx.specs.declared.links.Links.{Links}
-use Rattle.plasma_tx.specs.declared.views.CoinView.{CoinView}
+use Rattle.plasma_tx.specs.{declared.links.Link.{Link}, declared.links.Links.{Links}, declared.views.CoinView.{CoinView}}
 
 -- no number from one on and below another is asked for
 abbrev pub NoneIsAsked : (ℕ → Bool) → ℕ → ℕ → Type 0

@@ -2,8 +2,7 @@
 use Rattle.std.specs.Prelude.{◌≡◌, ℕ, ◌-◌, ◌^◌, ◌==◌, ◌&&◌, ◌<◌, ◌≤◌, Bool, nat_le, if◌then◌else◌, List, ◌∷◌, ◌++◌, length, drop, slice_index, Option, Some, None}
 use Rattle.std.specs.List.{All, filter_map, slice_get}
 use Rattle.lms_sign.specs.Types.{u32str, u32_at}
-use Rattle.hss_keys.specs.declared.entry.Entry.{Entry}
-use Rattle.hss_keys.specs.declared.entry.Entry.TheVariants.{Opens, Binds}
+use Rattle.hss_keys.specs.{declared.entry.Entry.{Entry}, declared.entry.Entry.TheVariants.{Opens, Binds}}
 
 -- the most bytes of a message
 abbrev pub most_length : ℕ

@@ -6,11 +6,7 @@ use Rattle.std.specs.Result.{is_ok}
 use Rattle.std.specs.Str.{bytes_eq}
 use Rattle.lms_sign.specs.Types.{leaf_count}
 use Rattle.gate_journal.specs.Image.{journal_in, spelled}
-use Rattle.hss_keys.specs.declared.seed.HssSeed.{HssSeed}
-use Rattle.hss_keys.specs.declared.entry.Entry.{Entry}
-use Rattle.hss_keys.specs.declared.entry.Entry.TheVariants.{Opens, Binds}
-use Rattle.hss_keys.specs.Keys.{bottom_key}
-use Rattle.hss_keys.specs.Entries.{entry_in, entries_of, opened_count, used_in}
+use Rattle.hss_keys.specs.{declared.seed.HssSeed.{HssSeed}, declared.entry.Entry.{Entry}, declared.entry.Entry.TheVariants.{Opens, Binds}, Keys.{bottom_key}, Entries.{entry_in, entries_of, opened_count, used_in}}
 
 -- the entry may stand behind these
 abbrev pub entry_may_follow : HssSeed → List Entry → Entry → Bool

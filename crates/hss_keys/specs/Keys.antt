@@ -3,10 +3,7 @@
 use Rattle.std.specs.Prelude.{◌≡◌, ◌↔◌, ◌<◌, ℕ, ◌+◌, ◌&&◌, nat_le, Bool, true, List, ◌++◌, length, take, drop, slice_range}
 use Rattle.std.specs.Str.{bytes_eq}
 use Rattle.sha2.specs.Sha256.{sha256}
-use Rattle.lms_sign.specs.declared.secret.Secret.{Secret}
-use Rattle.lms_sign.specs.Types.{is_supported, leaf_count, signature_length, u8str, u16str, u32str}
-use Rattle.lms_sign.specs.Tree.{public_key_of, signature_of}
-use Rattle.lms_sign.specs.Valid.{types_of, is_valid, IsValid}
+use Rattle.lms_sign.specs.{declared.secret.Secret.{Secret}, Types.{is_supported, leaf_count, signature_length, u8str, u16str, u32str}, Tree.{public_key_of, signature_of}, Valid.{types_of, is_valid, IsValid}}
 use Rattle.hss_keys.specs.declared.seed.HssSeed.{HssSeed}
 
 -- what the top key is made from

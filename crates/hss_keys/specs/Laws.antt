@@ -2,19 +2,9 @@
 -- crashes. An advance and a bind are appends.
 use Rattle.std.specs.Prelude.{◌≡◌, ◌≢◌, ℕ, true, if◌then◌else◌, List, [], ◌∷◌, ◌++◌, length, Some, Ok, Err}
 use Rattle.std.specs.Option.{unwrap_or}
-use Rattle.crash_disk.specs.Disk.{History, content, MayLeave}
-use Rattle.crash_disk.specs.Calls.{with_made}
-use Rattle.crash_disk.specs.Outcomes.{image_after, HasPattern}
-use Rattle.crash_disk.specs.declared.outcome.Outcome.{Outcome}
-use Rattle.gate_journal.specs.Image.{spelled}
-use Rattle.gate_journal.specs.Steps.{append_steps}
-use Rattle.gate_journal.specs.Journal.{IsSettled}
-use Rattle.gate_journal.specs.Laws.{is_added}
-use Rattle.gate_journal.specs.Life.{Event, Life, shut, after_events, MayAllCome, Continue, Stay}
-use Rattle.hss_keys.specs.declared.seed.HssSeed.{HssSeed}
-use Rattle.hss_keys.specs.declared.entry.Entry.{Entry}
-use Rattle.hss_keys.specs.Entries.{entry_text, entries_of, IsEntry}
-use Rattle.hss_keys.specs.Form.{entry_may_follow, level_records, level_records_in, are_level_records}
+use Rattle.crash_disk.specs.{Disk.{History, content, MayLeave}, Calls.{with_made}, Outcomes.{image_after, HasPattern}, declared.outcome.Outcome.{Outcome}}
+use Rattle.gate_journal.specs.{Image.{spelled}, Steps.{append_steps}, Journal.{IsSettled}, Laws.{is_added}, Life.{Event, Life, shut, after_events, MayAllCome, Continue, Stay}}
+use Rattle.hss_keys.specs.{declared.seed.HssSeed.{HssSeed}, declared.entry.Entry.{Entry}, Entries.{entry_text, entries_of, IsEntry}, Form.{entry_may_follow, level_records, level_records_in, are_level_records}}
 use Rattle.hss_keys.specs.Levels.{HssBoundState, KeepsBound}
 
 -- the life of a journal of this signer after events, the newest first, from a disk on which it isn't open

@@ -1,16 +1,9 @@
 -- What callers see of a two-level signer over a disk, and what its calls do by their definitions.
 use Rattle.std.specs.Prelude.{◌≡◌, ℕ, ◌-◌, ◌&&◌, not, Bool, nat_lt, if◌then◌else◌, List, [], ◌∷◌, Option, Some, None, option_map, Result, Ok, Err}
 use Rattle.lms_sign.specs.Types.{leaf_count}
-use Rattle.node_journal.specs.Notes.{NotesState}
-use Rattle.node_journal.specs.Effect.{Effect, only, first_cause, unless}
-use Rattle.node_journal.specs.declared.stop.Stop.{Stop}
-use Rattle.node_journal.specs.declared.stop.Stop.TheVariants.{Closed as StopClosed, NoMemory as StopNoMemory, DeviceFault as StopFault}
-use Rattle.hss_keys.specs.declared.seed.HssSeed.{HssSeed}
-use Rattle.hss_keys.specs.declared.entry.Entry.{Entry}
-use Rattle.hss_keys.specs.declared.entry.Entry.TheVariants.{Opens, Binds}
-use Rattle.hss_keys.specs.declared.refusal.LevelRefusal.{LevelRefusal}
-use Rattle.hss_keys.specs.declared.refusal.LevelRefusal.TheVariants.{LevelOpen, LevelSpent, KeySpent, Closed, NoMemory, DeviceFault}
-use Rattle.hss_keys.specs.Keys.{bottom_key, hss_key_of}
+use Rattle.node_journal.specs.{Notes.{NotesState}, Effect.{Effect, only, first_cause, unless}, declared.stop.Stop.{Stop}, declared.stop.Stop.TheVariants.{Closed as StopClosed, NoMemory as StopNoMemory, DeviceFault as StopFault}}
+use Rattle.hss_keys.specs.{declared.seed.HssSeed.{HssSeed}, declared.entry.Entry.{Entry}, declared.entry.Entry.TheVariants.{Opens, Binds}, declared.refusal.LevelRefusal.{LevelRefusal}}
+use Rattle.hss_keys.specs.{declared.refusal.LevelRefusal.TheVariants.{LevelOpen, LevelSpent, KeySpent, Closed, NoMemory, DeviceFault}, Keys.{bottom_key, hss_key_of}}
 use Rattle.hss_keys.specs.Entries.{entry_text, entries_of, key_at, message_at, opened_count, used_in}
 
 -- its records in a journal on a disk, as a node's notes are; and what the keys are made from

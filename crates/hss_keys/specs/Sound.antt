@@ -1,20 +1,9 @@
 -- What holds of the records of every two-level signer, in memory and on a disk.
 use Rattle.std.specs.Prelude.{◌≡◌, ◌<◌, ◌≤◌, ℕ, true, false, List, length, drop, Option, Ok, Err}
-use Rattle.crash_disk.specs.Disk.{History}
-use Rattle.crash_disk.specs.Calls.{WhereTold}
-use Rattle.lms_sign.specs.declared.secret.Secret.{Secret}
-use Rattle.lms_sign.specs.Types.{is_supported, leaf_count}
-use Rattle.lms_sign.specs.Valid.{types_of}
-use Rattle.gate_journal.specs.Image.{spelled}
-use Rattle.gate_journal.specs.Journal.{JournalState, IsSettled}
-use Rattle.gate_journal.specs.Life.{Stay}
-use Rattle.gate_journal.specs.declared.refusal.JournalRefusal.{JournalRefusal}
-use Rattle.gate_journal.specs.declared.refusal.JournalRefusal.TheVariants.{NotJournal, NoMemory}
-use Rattle.hss_keys.specs.declared.seed.HssSeed.{HssSeed}
-use Rattle.hss_keys.specs.Keys.{top_secret, hss_key_of}
-use Rattle.hss_keys.specs.Entries.{entries_of, keys_of, used_in}
-use Rattle.hss_keys.specs.Form.{are_level_records, level_records}
-use Rattle.hss_keys.specs.Levels.{leaves_left}
+use Rattle.crash_disk.specs.{Disk.{History}, Calls.{WhereTold}}
+use Rattle.lms_sign.specs.{declared.secret.Secret.{Secret}, Types.{is_supported, leaf_count}, Valid.{types_of}}
+use Rattle.gate_journal.specs.{Image.{spelled}, Journal.{JournalState, IsSettled}, Life.{Stay}, declared.refusal.JournalRefusal.{JournalRefusal}, declared.refusal.JournalRefusal.TheVariants.{NotJournal, NoMemory}}
+use Rattle.hss_keys.specs.{declared.seed.HssSeed.{HssSeed}, Keys.{top_secret, hss_key_of}, Entries.{entries_of, keys_of, used_in}, Form.{are_level_records, level_records}, Levels.{leaves_left}}
 
 -- both pairs of types are supported, the identifier has its length, and the key is the top one
 pub record IsHssSecret (seed : HssSeed) (key : Secret) : Type 0 where

@@ -2,30 +2,19 @@
 use Rattle.std.specs.Prelude.{◌≡◌, ◌⊎◌, ◌<◌, ℕ, List, Option, Some, None, option_map}
 use mathlib.Core.Logic.{inl, inr}
 use Rattle.crash_disk.specs.Disk.{History, FaultPlan}
-use Rattle.node_journal.specs.Notes.{NotesState}
-use Rattle.node_replies.specs.Roles.{Role, Wallet, Watcher, Operator}
-use Rattle.node_replies.specs.declared.reply.Reply.{Reply}
+use Rattle.node_journal.specs.{Notes.{NotesState}, Parts.{Parts, alone, both, of_each}}
+use Rattle.node_replies.specs.{Roles.{Role, Wallet, Watcher, Operator}, declared.reply.Reply.{Reply}, declared.order.WalletOrder.{WalletOrder}, Orders.{Response, wallet_does}}
 use Rattle.wallet_node.specs.State.{WalletState}
 use Rattle.plasma_tx.specs.declared.call.RootCall.{RootCall}
 use Rattle.node_rules.specs.Wallet.{WalletRecords}
-use Rattle.node_replies.specs.declared.order.WalletOrder.{WalletOrder}
-use Rattle.node_replies.specs.Orders.{Response, wallet_does}
-use Rattle.node_lines.specs.declared.wallet_line.WalletLine.{WalletLine}
+use Rattle.node_lines.specs.{declared.wallet_line.WalletLine.{WalletLine}, Grammar.{wallet_line_in}}
 use Rattle.operator_rules.specs.Records.{who_is}
-use Rattle.node_lines.specs.Grammar.{wallet_line_in}
-use Rattle.node_roles.specs.Notes.{NotesAt}
-use Rattle.node_journal.specs.Parts.{Parts, alone, both, of_each}
-use Rattle.node_roles.specs.Nodes.{NodeAt, records_at}
-use Rattle.node_roles.specs.Roles.{wallet_parts, wallet_records, wallet_commands}
+use Rattle.node_roles.specs.{Notes.{NotesAt}, Nodes.{NodeAt, records_at}, Roles.{wallet_parts, wallet_records, wallet_commands}}
 use Rattle.node_sessions.specs.Sessions.{SessionState, begun, calls_of, commanded}
-use Rattle.streamed_lines.specs.Streams.{Rules, Stream, stream_of}
-use Rattle.streamed_lines.specs.Reading.{next_text}
+use Rattle.streamed_lines.specs.{Streams.{Rules, Stream, stream_of}, Reading.{next_text}}
 use Rattle.run_endings.specs.declared.status.Status.{Status}
-use Rattle.node_runs.specs.Sessions.{Outside, Begins, RunsSession}
-use Rattle.node_runs.specs.Runs.{RunsWatcher, RunsWallet, node_rules, node_found}
-use Rattle.node_runs.specs.Operators.{RunsBehind, RunsOperator}
-use Rattle.node_lives.specs.Disks.{Pair}
-use Rattle.node_lives.specs.Calls.{Asked, ToRun, RunsAs, DoesAsked, Starves, Call}
+use Rattle.node_runs.specs.{Sessions.{Outside, Begins, RunsSession}, Runs.{RunsWatcher, RunsWallet, node_rules, node_found}, Operators.{RunsBehind, RunsOperator}}
+use Rattle.node_lives.specs.{Disks.{Pair}, Calls.{Asked, ToRun, RunsAs, DoesAsked, Starves, Call}}
 
 -- the bytes that a session was given, and the stream of the lines that it answered
 pub record Lines (A : Type 0) : Type 0 where

@@ -2,12 +2,8 @@
 use Rattle.std.specs.Prelude.{◌≡◌, ◌⊎◌, ℕ, List, Option}
 use Rattle.crash_disk.specs.Disk.{History, FaultPlan}
 use Rattle.node_replies.specs.Roles.{Role, Wallet, Watcher, Operator}
-use Rattle.run_endings.specs.declared.status.Status.{Status}
-use Rattle.run_endings.specs.declared.status.Status.TheVariants.{NoMemory}
-use Rattle.node_runs.specs.Sessions.{Outside}
-use Rattle.node_runs.specs.Runs.{RunsWatcher, RunsWallet}
-use Rattle.node_runs.specs.Operators.{RunsOperator}
-use Rattle.node_runs.specs.Inits.{InitsNotes, InitsPair}
+use Rattle.run_endings.specs.{declared.status.Status.{Status}, declared.status.Status.TheVariants.{NoMemory}}
+use Rattle.node_runs.specs.{Sessions.{Outside}, Runs.{RunsWatcher, RunsWallet}, Operators.{RunsOperator}, Inits.{InitsNotes, InitsPair}}
 use Rattle.hss_runs.specs.Runs.{RunsSigner}
 use Rattle.node_lives.specs.Disks.{Pair}
 

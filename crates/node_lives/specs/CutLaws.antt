@@ -3,10 +3,7 @@ use Rattle.std.specs.Prelude.{◌≡◌, ℕ, List, ◌∷◌, ◌++◌, Option,
 use Rattle.std.specs.List.{All, Contains}
 use Rattle.crash_disk.specs.Disk.{History, FaultPlan}
 use Rattle.node_replies.specs.Roles.{Role, Wallet}
-use Rattle.node_lives.specs.Calls.{ToRun, Call}
-use Rattle.node_lives.specs.Cuts.{LifeStep, call_in, calls_in, IsLifeWithCuts}
-use Rattle.node_lives.specs.Answered.{Ran, ran_in, GivesOut}
-use Rattle.node_lives.specs.Laws.{Begins, FindsTheNode, StandIn}
+use Rattle.node_lives.specs.{Calls.{ToRun, Call}, Cuts.{LifeStep, call_in, calls_in, IsLifeWithCuts}, Answered.{Ran, ran_in, GivesOut}, Laws.{Begins, FindsTheNode, StandIn}}
 
 -- Over disks that tell their history, foretell their faults and count them, and under a digest: once a node was begun,
 -- each later step finds it; the records of the lines that a step answered stand in every later one; and what a leaf of

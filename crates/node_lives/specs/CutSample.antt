@@ -2,11 +2,8 @@
 -- kept, and the next run finds which. So the laws of lives with cuts don't hold for want of one.
 use Rattle.std.specs.Prelude.{ℕ, List, [], ◌∷◌, ◌++◌, codes}
 use Rattle.node_replies.specs.Roles.{Wallet}
-use Rattle.run_endings.specs.Texts.{refused_text}
-use Rattle.run_endings.specs.declared.status.Status.TheVariants.{Done, Refused, WriteFault}
-use Rattle.node_lives.specs.Calls.{BothDisks, ToBegin, ToRun}
-use Rattle.node_lives.specs.Cuts.{Cut, Ended, CutOff, IsLifeWithCuts}
-use Rattle.node_lives.specs.Samples.{told, foretold, met, identity, DriveCall, Went}
+use Rattle.run_endings.specs.{Texts.{refused_text}, declared.status.Status.TheVariants.{Done, Refused, WriteFault}}
+use Rattle.node_lives.specs.{Calls.{BothDisks, ToBegin, ToRun}, Cuts.{Cut, Ended, CutOff, IsLifeWithCuts}, Samples.{told, foretold, met, identity, DriveCall, Went}}
 
 -- Under a digest: the cut run answered no command and wrote nothing. Behind it the same command is done once more,
 -- where the crash took its record, and refused, where the crash left it.

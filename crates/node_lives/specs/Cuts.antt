@@ -2,9 +2,7 @@
 use Rattle.std.specs.Prelude.{◌≡◌, ℕ, true, List, [], ◌∷◌, ◌++◌, map, take, Option, Some}
 use Rattle.std.specs.List.{All}
 use Rattle.crash_disk.specs.Disk.{History, fresh_history, MayLeave, before_last, FaultPlan}
-use Rattle.node_lives.specs.Disks.{Pair, BothLie, BothTell}
-use Rattle.node_lives.specs.Calls.{Call}
-use Rattle.node_lives.specs.Lives.{IsLife}
+use Rattle.node_lives.specs.{Disks.{Pair, BothLie, BothTell}, Calls.{Call}, Lives.{IsLife}}
 
 -- over disks that tell their history
 module _ {D : Type 0} (told : D → Option History) where

@@ -3,24 +3,13 @@ use Rattle.std.specs.Prelude.{◌≡◌, ◌≢◌, ◌⊎◌, ℕ, List, [], �
 use Rattle.std.specs.List.{All, Contains}
 use Rattle.crash_disk.specs.Disk.{History, FaultPlan}
 use Rattle.plasma_tx.specs.Spelling.{AreBytes}
-use Rattle.node_rules.specs.declared.identity.WalletIdentity.{WalletIdentity}
-use Rattle.node_rules.specs.Watcher.{WatcherIdentity, identity_text as watcher_text}
-use Rattle.node_rules.specs.WatcherLaws.{IsIdentity as IsWatcher}
-use Rattle.node_rules.specs.WalletRecords.{identity_text as wallet_text}
-use Rattle.node_rules.specs.WalletLaws.{IsIdentity as IsWallet}
-use Rattle.operator_rules.specs.Records.{Identity as OperatorIdentity, identity_text as operator_text, who_is}
-use Rattle.operator_rules.specs.Laws.{IsIdentity as IsOperator}
-use Rattle.node_rules.specs.Wallet.{WalletRecords}
+use Rattle.node_rules.specs.{declared.identity.WalletIdentity.{WalletIdentity}, Watcher.{WatcherIdentity, identity_text as watcher_text}, WatcherLaws.{IsIdentity as IsWatcher}, WalletRecords.{identity_text as wallet_text}}
+use Rattle.node_rules.specs.{WalletLaws.{IsIdentity as IsWallet}, Wallet.{WalletRecords}}
+use Rattle.operator_rules.specs.{Records.{Identity as OperatorIdentity, identity_text as operator_text, who_is}, Laws.{IsIdentity as IsOperator}}
 use Rattle.node_replies.specs.Roles.{Role, Wallet, Watcher, Operator}
-use Rattle.streamed_lines.specs.declared.ending.Ending.{Ending}
-use Rattle.streamed_lines.specs.Outside.{WroteFront}
-use Rattle.run_endings.specs.Texts.{device_fault_text}
-use Rattle.run_endings.specs.Endings.{last_text}
-use Rattle.run_endings.specs.declared.status.Status.TheVariants.{Done, NotJournal}
-use Rattle.node_lives.specs.Calls.{Begun, NotesAlone, BothDisks, ToBegin, ToRun, Call}
-use Rattle.node_lives.specs.Lives.{IsLife}
-use Rattle.node_lives.specs.Standing.{identity_alone, GoOn, HasDigests, IsIdentityOf, Stand}
-use Rattle.node_lives.specs.Answered.{Ran, ran_in, GivesOut}
+use Rattle.streamed_lines.specs.{declared.ending.Ending.{Ending}, Outside.{WroteFront}}
+use Rattle.run_endings.specs.{Texts.{device_fault_text}, Endings.{last_text}, declared.status.Status.TheVariants.{Done, NotJournal}}
+use Rattle.node_lives.specs.{Calls.{Begun, NotesAlone, BothDisks, ToBegin, ToRun, Call}, Lives.{IsLife}, Standing.{identity_alone, GoOn, HasDigests, IsIdentityOf, Stand}, Answered.{Ran, ran_in, GivesOut}}
 
 -- what a run whose disks were opened says of its end: nothing where all lines were answered
 abbrev pub IsLastLine : List ℕ → Type 0

@@ -1,8 +1,7 @@
 -- A node's life: calls of the program, one after another, on one pair of disks, and crashes between them.
 use Rattle.std.specs.Prelude.{ℕ, List, [], ◌∷◌, Option}
 use Rattle.crash_disk.specs.Disk.{History, FaultPlan}
-use Rattle.node_lives.specs.Disks.{Pair, BothLie, BothTell}
-use Rattle.node_lives.specs.Calls.{Call}
+use Rattle.node_lives.specs.{Disks.{Pair, BothLie, BothTell}, Calls.{Call}}
 
 -- over disks that tell their history, foretell their faults and count them, and under a digest
 module _ {D : Type 0} (told : D → Option History) (plan : D → Option FaultPlan) (faults : D → ℕ)

@@ -3,34 +3,18 @@
 -- these; and at the end. At each of them a call may be cut off. Over drives, whose faults to come are any.
 use Rattle.std.specs.Prelude.{◌≡◌, ◌⊎◌, ◌≤◌, ◌<◌, ℕ, Bool, false, List, [], length, Option, Some, None}
 use Rattle.std.specs.List.{All}
-use Rattle.crash_disk.specs.Disk.{Step, History, content}
-use Rattle.crash_disk.specs.Calls.{stopped_after, after_course}
-use Rattle.gate_journal.specs.Image.{most}
-use Rattle.gate_journal.specs.Steps.{open_steps}
-use Rattle.node_journal.specs.Begin.{is_taken, journal_steps, init_steps, IsAsked, PassesInit, IsLong, IsShort}
-use Rattle.node_journal.specs.Notes.{NotesState, Opened}
-use Rattle.node_journal.specs.Role.{role_in}
-use Rattle.node_journal.specs.Parts.{Parts, alone, both, OfEach}
+use Rattle.crash_disk.specs.{Disk.{Step, History, content}, Calls.{stopped_after, after_course}}
+use Rattle.gate_journal.specs.{Image.{most}, Steps.{open_steps}}
+use Rattle.node_journal.specs.{Begin.{is_taken, journal_steps, init_steps, IsAsked, PassesInit, IsLong, IsShort}, Notes.{NotesState, Opened}, Role.{role_in}, Parts.{Parts, alone, both, OfEach}}
 use Rattle.node_rules.specs.Watcher.{watcher_kinds}
 use Rattle.operator_rules.specs.Records.{operator_kinds, who_is}
-use Rattle.wallet_node.specs.State.{WalletState}
-use Rattle.wallet_node.specs.Opening.{OpensNotes, OpensWallet}
+use Rattle.wallet_node.specs.{State.{WalletState}, Opening.{OpensNotes, OpensWallet}}
 use Rattle.node_replies.specs.Roles.{Role, Wallet, Watcher, Operator}
-use Rattle.node_roles.specs.Notes.{NotesAt, told_after, with_note}
-use Rattle.node_roles.specs.Parts.{with_effect, EachFails}
-use Rattle.node_roles.specs.Nodes.{NodeAt, Commands, outcome_at}
-use Rattle.node_roles.specs.Roles.{watcher_commands, wallet_commands, operator_commands, desk_commands, wallet_parts}
+use Rattle.node_roles.specs.{Notes.{NotesAt, told_after, with_note}, Parts.{with_effect, EachFails}, Nodes.{NodeAt, Commands, outcome_at}, Roles.{watcher_commands, wallet_commands, operator_commands, desk_commands, wallet_parts}}
 use Rattle.node_sessions.specs.Sessions.{SessionState, begun}
-use Rattle.streamed_lines.specs.Streams.{Stream}
-use Rattle.streamed_lines.specs.Outside.{Gave, WroteFront}
-use Rattle.node_runs.specs.Sessions.{Outside, Begins, AtNext}
-use Rattle.node_runs.specs.Runs.{node_rules, node_found}
-use Rattle.node_runs.specs.Operators.{desk_records_in}
-use Rattle.node_lives.specs.Disks.{Pair}
-use Rattle.node_lives.specs.Calls.{Asked, NotesAlone, BothDisks, ToBegin, ToRun}
-use Rattle.node_lives.specs.Cuts.{Cut}
-use Rattle.node_lives.specs.Answered.{Lines, Ran, ran_with, ran_in}
-use Rattle.node_lives.specs.Samples.{Drive, told, foretold, met, DriveCall}
+use Rattle.streamed_lines.specs.{Streams.{Stream}, Outside.{Gave, WroteFront}}
+use Rattle.node_runs.specs.{Sessions.{Outside, Begins, AtNext}, Runs.{node_rules, node_found}, Operators.{desk_records_in}}
+use Rattle.node_lives.specs.{Disks.{Pair}, Calls.{Asked, NotesAlone, BothDisks, ToBegin, ToRun}, Cuts.{Cut}, Answered.{Lines, Ran, ran_with, ran_in}, Samples.{Drive, told, foretold, met, DriveCall}}
 
 -- A part's disk tells this. Each record has a length that an append takes.
 pub record Tells (at : NotesAt) (history : History) : Type 0 where

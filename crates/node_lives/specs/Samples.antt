@@ -4,12 +4,8 @@ use Rattle.std.specs.Prelude.{◌≡◌, ◌≢◌, ℕ, List, [], ◌∷◌, �
 use Rattle.crash_disk.specs.Disk.{History, fresh_history, content, FaultPlan}
 use Rattle.leaf_journal.specs.Records.{marker}
 use Rattle.node_replies.specs.Roles.{Wallet}
-use Rattle.run_endings.specs.Texts.{device_fault_text, refused_text}
-use Rattle.run_endings.specs.declared.status.Status.{Status}
-use Rattle.run_endings.specs.declared.status.Status.TheVariants.{Done, Refused, DeviceFault}
-use Rattle.node_lives.specs.Calls.{Asked, BothDisks, ToBegin, ToRun, Call}
-use Rattle.node_lives.specs.Lives.{IsLife}
-use Rattle.node_lives.specs.Answered.{ran_in}
+use Rattle.run_endings.specs.{Texts.{device_fault_text, refused_text}, declared.status.Status.{Status}, declared.status.Status.TheVariants.{Done, Refused, DeviceFault}}
+use Rattle.node_lives.specs.{Calls.{Asked, BothDisks, ToBegin, ToRun, Call}, Lives.{IsLife}, Answered.{ran_in}}
 
 -- a disk that tells its history, foretells no fault and counts those that it meets
 pub record Drive : Type 0 where

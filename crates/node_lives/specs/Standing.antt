@@ -2,22 +2,15 @@
 use Rattle.std.specs.Prelude.{◌≡◌, ℕ, Bool, true, List, [], ◌∷◌, length, Option, Some, None}
 use Rattle.std.specs.List.{All}
 use Rattle.std.specs.Result.{is_ok}
-use Rattle.crash_disk.specs.Disk.{History, MayLeave}
-use Rattle.crash_disk.specs.Calls.{WhereTold}
-use Rattle.gate_journal.specs.Journal.{Keeps}
-use Rattle.gate_journal.specs.Life.{Continue, Stay}
+use Rattle.crash_disk.specs.{Disk.{History, MayLeave}, Calls.{WhereTold}}
+use Rattle.gate_journal.specs.{Journal.{Keeps}, Life.{Continue, Stay}}
 use Rattle.node_journal.specs.Role.{Kinds, are_of}
 use Rattle.lms_sign.specs.Tree.{public_key_of}
-use Rattle.leaf_journal.specs.Leaves.{leaves_of}
-use Rattle.leaf_journal.specs.Records.{leaf_records_of}
+use Rattle.leaf_journal.specs.{Leaves.{leaves_of}, Records.{leaf_records_of}}
 use Rattle.plasma_tx.specs.Spelling.{AreBytes}
-use Rattle.node_rules.specs.Watcher.{watcher_kinds}
-use Rattle.node_rules.specs.WalletRecords.{wallet_kinds}
-use Rattle.node_rules.specs.Wallet.{WalletRecords}
-use Rattle.node_rules.specs.WalletOpening.{is_wallet}
+use Rattle.node_rules.specs.{Watcher.{watcher_kinds}, WalletRecords.{wallet_kinds}, Wallet.{WalletRecords}, WalletOpening.{is_wallet}}
 use Rattle.operator_rules.specs.Records.{operator_kinds, who_is}
-use Rattle.receipt_audit.specs.Promises.{is_promise}
-use Rattle.receipt_audit.specs.Desk.{desk_secret}
+use Rattle.receipt_audit.specs.{Promises.{is_promise}, Desk.{desk_secret}}
 use Rattle.node_replies.specs.Roles.{Role, Wallet, Watcher, Operator}
 use Rattle.node_lives.specs.Disks.{Pair}
 

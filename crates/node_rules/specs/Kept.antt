@@ -5,19 +5,9 @@ use Rattle.std.specs.List.{list_all}
 use Rattle.std.specs.Option.{option_map, option_map_or}
 use Rattle.std.specs.Result.{is_ok}
 use Rattle.gate_journal.specs.Image.{most}
-use Rattle.plasma_tx.specs.declared.opening.RawOpening.{RawOpening}
-use Rattle.plasma_tx.specs.declared.links.Links.{Links}
-use Rattle.plasma_tx.specs.declared.call.RootCall.{RootCall}
-use Rattle.plasma_tx.specs.declared.views.ExitView.{ExitView}
-use Rattle.plasma_tx.specs.Links.{tip_of}
-use Rattle.plasma_tx.specs.Openings.{opening_in}
-use Rattle.plasma_tx.specs.Views.{coin_at, exits_of}
+use Rattle.plasma_tx.specs.{declared.opening.RawOpening.{RawOpening}, declared.links.Links.{Links}, declared.call.RootCall.{RootCall}, declared.views.ExitView.{ExitView}, Links.{tip_of}, Openings.{opening_in}, Views.{coin_at, exits_of}}
 use Rattle.plasma_tx.specs.Shown.{Rules, tests_by}
-use Rattle.coin_history.specs.declared.bundle.Bundle.{Bundle}
-use Rattle.coin_history.specs.declared.refusal.HistoryRefusal.{HistoryRefusal}
-use Rattle.coin_history.specs.Bundles.{bundle_in}
-use Rattle.coin_history.specs.History.{links_of, transfer_of}
-use Rattle.coin_history.specs.Checking.{history_of}
+use Rattle.coin_history.specs.{declared.bundle.Bundle.{Bundle}, declared.refusal.HistoryRefusal.{HistoryRefusal}, Bundles.{bundle_in}, History.{links_of, transfer_of}, Checking.{history_of}}
 
 -- the rules of a chain with this tag; of histories the tag alone matters
 abbrev pub chain_of : List ℕ → Rules

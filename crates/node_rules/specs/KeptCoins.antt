@@ -1,15 +1,10 @@
 -- A kept coin in memory, and what is due for it.
 use Rattle.std.specs.Prelude.{◌≡◌, ℕ, List, [], Some}
 use Rattle.std.specs.Option.{option_map_or}
-use Rattle.plasma_tx.specs.declared.call.RootCall.{RootCall}
-use Rattle.plasma_tx.specs.declared.links.Links.{Links}
-use Rattle.plasma_tx.specs.Views.{coin_at}
-use Rattle.coin_history.specs.Bundles.{bundle_text}
-use Rattle.coin_history.specs.declared.bundle.Bundle.{Bundle}
-use Rattle.coin_history.specs.History.{links_in}
+use Rattle.plasma_tx.specs.{declared.call.RootCall.{RootCall}, declared.links.Links.{Links}, Views.{coin_at}}
+use Rattle.coin_history.specs.{Bundles.{bundle_text}, declared.bundle.Bundle.{Bundle}, History.{links_in}}
 use Rattle.watch_duty.specs.Duty.{guard_of, due_of}
-use Rattle.node_rules.specs.Kept.{chain_of, kept_of, kept_in}
-use Rattle.node_rules.specs.declared.kept_coin.KeptCoin.{KeptCoin}
+use Rattle.node_rules.specs.{Kept.{chain_of, kept_of, kept_in}, declared.kept_coin.KeptCoin.{KeptCoin}}
 
 -- what is kept of a coin as it stands in memory: its coin, its tip and the links that its openings show
 abbrev pub kept_coin_of : List ℕ → Bundle → KeptCoin

@@ -1,11 +1,7 @@
 -- What holds of kept histories.
 use Rattle.std.specs.Prelude.{◌≡◌, ℕ, true, List, ◌++◌, Some, Ok}
-use Rattle.plasma_tx.specs.declared.links.Links.{Links}
-use Rattle.plasma_tx.specs.declared.call.RootCall.{RootCall}
-use Rattle.plasma_tx.specs.Spelling.{AreBytes}
-use Rattle.coin_history.specs.declared.bundle.Bundle.{Bundle}
-use Rattle.coin_history.specs.Bundles.{bundle_text, IsBundle}
-use Rattle.coin_history.specs.History.{links_in}
+use Rattle.plasma_tx.specs.{declared.links.Links.{Links}, declared.call.RootCall.{RootCall}, Spelling.{AreBytes}}
+use Rattle.coin_history.specs.{declared.bundle.Bundle.{Bundle}, Bundles.{bundle_text, IsBundle}, History.{links_in}}
 use Rattle.node_rules.specs.Kept.{chain_of, kept_of, is_kept, kept_in, kept_links, links_handed}
 
 -- a kept coin that has bytes: its openings show links of the coin, the last at the tip

@@ -3,39 +3,17 @@ use Rattle.std.specs.Prelude.{ℕ, ◌+◌, ◌-◌, ◌==◌, ◌&&◌, ◌||�
 use Rattle.std.specs.List.{flat_map, range_with_len}
 use Rattle.std.specs.Option.{option_map, option_map_or}
 use Rattle.node_journal.specs.Effect.{first_cause}
-use Rattle.lms_sign.specs.Types.{leaf_count}
-use Rattle.lms_sign.specs.Tree.{signature_of}
-use Rattle.plasma_tx.specs.declared.owner.Owner.{Owner}
-use Rattle.plasma_tx.specs.declared.body.Body.{Body}
-use Rattle.plasma_tx.specs.declared.links.Link.{Link}
-use Rattle.plasma_tx.specs.declared.links.Links.{Links}
-use Rattle.plasma_tx.specs.declared.call.RootCall.{RootCall}
-use Rattle.plasma_tx.specs.declared.call.RootCall.TheVariants.{StartDeposit, StartSpend}
-use Rattle.plasma_tx.specs.Links.{last_spend, last_owner_of, tip_of}
-use Rattle.plasma_tx.specs.Spelling.{body_text}
-use Rattle.plasma_tx.specs.Views.{blocks, coins, is_withdrawn}
-use Rattle.plasma_tx.specs.Shown.{tests_by}
-use Rattle.coin_history.specs.declared.bundle.Bundle.{Bundle}
-use Rattle.coin_history.specs.declared.refusal.HistoryRefusal.{HistoryRefusal}
-use Rattle.coin_history.specs.Bundles.{bundle_in}
-use Rattle.coin_history.specs.Checking.{absence_of}
-use Rattle.coin_history.specs.Laws.{first_links}
+use Rattle.lms_sign.specs.{Types.{leaf_count}, Tree.{signature_of}}
+use Rattle.plasma_tx.specs.{declared.owner.Owner.{Owner}, declared.body.Body.{Body}, declared.links.Link.{Link}, declared.links.Links.{Links}, declared.call.RootCall.{RootCall}, declared.call.RootCall.TheVariants.{StartDeposit, StartSpend}}
+use Rattle.plasma_tx.specs.{Links.{last_spend, last_owner_of, tip_of}, Spelling.{body_text}, Views.{blocks, coins, is_withdrawn}, Shown.{tests_by}}
+use Rattle.coin_history.specs.{declared.bundle.Bundle.{Bundle}, declared.refusal.HistoryRefusal.{HistoryRefusal}, Bundles.{bundle_in}, Checking.{absence_of}, Laws.{first_links}}
 use Rattle.leaf_journal.specs.Records.{binding_record, is_marked, marker, messages_of}
-use Rattle.watch_duty.specs.declared.guard.Guard.{Guard}
-use Rattle.watch_duty.specs.Duty.{due_of, tip_shown}
-use Rattle.wallet_core.specs.declared.notes.LeafRecord.{LeafRecord}
-use Rattle.wallet_core.specs.declared.notes.Notes.{Notes}
-use Rattle.wallet_core.specs.declared.coin_state.CoinState.{CoinState}
-use Rattle.wallet_core.specs.declared.coin_state.CoinState.TheVariants.{Nothing, Sending, Leaving as LeavingCoin, Held}
+use Rattle.watch_duty.specs.{declared.guard.Guard.{Guard}, Duty.{due_of, tip_shown}}
+use Rattle.wallet_core.specs.{declared.notes.LeafRecord.{LeafRecord}, declared.notes.Notes.{Notes}, declared.coin_state.CoinState.{CoinState}, declared.coin_state.CoinState.TheVariants.{Nothing, Sending, Leaving as LeavingCoin, Held}}
 use Rattle.wallet_core.specs.State.{is_owner, is_noted, state_of}
-use Rattle.node_rules.specs.declared.answers.Accepted.{Accepted}
-use Rattle.node_rules.specs.declared.answers.Sent.{Sent}
-use Rattle.node_rules.specs.declared.answers.Reclaimed.{Reclaimed}
-use Rattle.node_rules.specs.declared.identity.WalletIdentity.{WalletIdentity}
-use Rattle.node_rules.specs.declared.refusal.WalletRefusal.{WalletRefusal}
+use Rattle.node_rules.specs.{declared.answers.Accepted.{Accepted}, declared.answers.Sent.{Sent}, declared.answers.Reclaimed.{Reclaimed}, declared.identity.WalletIdentity.{WalletIdentity}, declared.refusal.WalletRefusal.{WalletRefusal}}
 use Rattle.node_rules.specs.declared.refusal.WalletRefusal.TheVariants.{History, NotMine, Withdrawn, ExitStands, NoteTooLong, NotHeld, Leaving, KeySpent, BadLast, OldJournal, AlreadyNew, NotSending, NoLast, NotYet}
-use Rattle.node_rules.specs.Kept.{kept_of, kept_links, links_handed, standing_block, most_note}
-use Rattle.node_rules.specs.Watcher.{is_of}
+use Rattle.node_rules.specs.{Kept.{kept_of, kept_links, links_handed, standing_block, most_note}, Watcher.{is_of}}
 use Rattle.node_rules.specs.WalletRecords.{secret_of, owner_of, Accepts, LeavesWith, Reclaims, note_text, who_is, notes_of, accepted_of, state_notes, leaves_in}
 
 -- ---- a wallet's records, and what a command does

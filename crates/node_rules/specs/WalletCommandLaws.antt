@@ -2,24 +2,12 @@
 use Rattle.std.specs.Prelude.{◌≡◌, ◌≢◌, ◌⊎◌, ℕ, ◌^◌, ◌<◌, true, false, List, [], ◌∷◌, ◌++◌, length, Option, Some, None, IfSome, Ok}
 use Rattle.std.specs.List.{All, filter_map, range_with_len}
 use Rattle.std.specs.Option.{option_map}
-use Rattle.plasma_tx.specs.declared.owner.Owner.{Owner}
-use Rattle.plasma_tx.specs.declared.body.Body.{Body}
-use Rattle.plasma_tx.specs.declared.links.Links.{Links}
-use Rattle.plasma_tx.specs.declared.call.RootCall.{RootCall}
-use Rattle.plasma_tx.specs.Links.{tip_of}
-use Rattle.plasma_tx.specs.Spelling.{AreBytes, IsOwner, body_text}
-use Rattle.plasma_tx.specs.Views.{blocks, coins}
+use Rattle.plasma_tx.specs.{declared.owner.Owner.{Owner}, declared.body.Body.{Body}, declared.links.Links.{Links}, declared.call.RootCall.{RootCall}, Links.{tip_of}, Spelling.{AreBytes, IsOwner, body_text}, Views.{blocks, coins}}
 use Rattle.leaf_journal.specs.Records.{binding_record, is_marked, marker, messages_of, MayBind}
-use Rattle.watch_duty.specs.declared.guard.Guard.{Guard}
-use Rattle.watch_duty.specs.Duty.{due_calls}
-use Rattle.wallet_core.specs.declared.coin_state.CoinState.{CoinState}
-use Rattle.wallet_core.specs.declared.coin_state.CoinState.TheVariants.{Sending, Leaving, Held}
-use Rattle.node_rules.specs.declared.answers.Reclaimed.{Reclaimed}
-use Rattle.node_rules.specs.Kept.{kept_of, links_handed}
-use Rattle.node_rules.specs.Laws.{IsReadBack}
-use Rattle.node_rules.specs.WalletRecords.{Accepts, LeavesWith, Reclaims, notes_of, accepted_of, leaves_in}
-use Rattle.node_rules.specs.Wallet.{WalletRecords, WalletEffect, who, coin_state, links_at, start_of, accept_effect, send_effect, leave_effect, reclaim_effect, migrate_effect, watch_answer}
-use Rattle.node_rules.specs.WalletOpening.{is_wallet}
+use Rattle.watch_duty.specs.{declared.guard.Guard.{Guard}, Duty.{due_calls}}
+use Rattle.wallet_core.specs.{declared.coin_state.CoinState.{CoinState}, declared.coin_state.CoinState.TheVariants.{Sending, Leaving, Held}}
+use Rattle.node_rules.specs.{declared.answers.Reclaimed.{Reclaimed}, Kept.{kept_of, links_handed}, Laws.{IsReadBack}, WalletRecords.{Accepts, LeavesWith, Reclaims, notes_of, accepted_of, leaves_in}}
+use Rattle.node_rules.specs.{Wallet.{WalletRecords, WalletEffect, who, coin_state, links_at, start_of, accept_effect, send_effect, leave_effect, reclaim_effect, migrate_effect, watch_answer}, WalletOpening.{is_wallet}}
 use Rattle.node_rules.specs.WalletLaws.{AddsNote}
 
 -- records with one more, if there is one

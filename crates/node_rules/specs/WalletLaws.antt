@@ -2,9 +2,7 @@
 use Rattle.std.specs.Prelude.{◌≡◌, ℕ, ◌^◌, ◌<◌, true, List, [], ◌∷◌, ◌++◌, length, Some}
 use Rattle.lms_sign.specs.Types.{is_supported}
 use Rattle.plasma_tx.specs.Spelling.{AreBytes}
-use Rattle.node_rules.specs.declared.identity.WalletIdentity.{WalletIdentity}
-use Rattle.node_rules.specs.Laws.{IsKeptCoin}
-use Rattle.node_rules.specs.WalletRecords.{identity_text, identity_in, Note, Accepts, LeavesWith, Reclaims, note_text, note_in, who_is, notes_of}
+use Rattle.node_rules.specs.{declared.identity.WalletIdentity.{WalletIdentity}, Laws.{IsKeptCoin}, WalletRecords.{identity_text, identity_in, Note, Accepts, LeavesWith, Reclaims, note_text, note_in, who_is, notes_of}}
 
 -- an identity of the type: a tag and a seed of 32 bytes, an account of 64 bits and a pair of types that keys may have
 pub record IsIdentity (who : WalletIdentity) : Type 0 where

@@ -9,8 +9,7 @@ use Rattle.node_journal.specs.Role.{are_of}
 use Rattle.lms_sign.specs.Types.{leaf_count}
 use Rattle.leaf_journal.specs.Records.{leaf_records_of}
 use Rattle.wallet_core.specs.declared.notes.LeafRecord.{LeafRecord}
-use Rattle.node_rules.specs.WalletRecords.{note_in, who_is, notes_of, wallet_kinds, is_body, leaves_in, is_bound_note, are_bound_notes}
-use Rattle.node_rules.specs.Wallet.{WalletRecords}
+use Rattle.node_rules.specs.{WalletRecords.{note_in, who_is, notes_of, wallet_kinds, is_body, leaves_in, is_bound_note, are_bound_notes}, Wallet.{WalletRecords}}
 
 -- the number of leaves of the wallet's key
 abbrev pub leaves_of : List (List ℕ) → ℕ

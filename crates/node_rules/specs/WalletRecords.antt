@@ -7,21 +7,13 @@ use Rattle.std.specs.Ordering.{nat_cmp}
 use Rattle.std.specs.BTreeSet.{insert_key}
 use Rattle.std.specs.Result.{is_ok}
 use Rattle.sha2.specs.Sha256.{sha256}
-use Rattle.lms_sign.specs.declared.secret.Secret.{Secret}
-use Rattle.lms_sign.specs.declared.types.LmsTypes.{LmsTypes}
-use Rattle.lms_sign.specs.Types.{is_supported}
-use Rattle.lms_sign.specs.Tree.{public_key_of}
+use Rattle.lms_sign.specs.{declared.secret.Secret.{Secret}, declared.types.LmsTypes.{LmsTypes}, Types.{is_supported}, Tree.{public_key_of}}
 use Rattle.node_journal.specs.Role.{Kinds}
-use Rattle.plasma_tx.specs.declared.owner.Owner.{Owner}
-use Rattle.plasma_tx.specs.Spelling.{number_text, number_at, body_in, body_length, body_at_start}
-use Rattle.coin_history.specs.declared.bundle.Bundle.{Bundle}
-use Rattle.coin_history.specs.Bundles.{bundle_text}
-use Rattle.wallet_core.specs.declared.notes.CoinTip.{CoinTip}
-use Rattle.wallet_core.specs.declared.notes.LeafRecord.{LeafRecord}
-use Rattle.wallet_core.specs.declared.notes.Notes.{Notes}
+use Rattle.plasma_tx.specs.{declared.owner.Owner.{Owner}, Spelling.{number_text, number_at, body_in, body_length, body_at_start}}
+use Rattle.coin_history.specs.{declared.bundle.Bundle.{Bundle}, Bundles.{bundle_text}}
+use Rattle.wallet_core.specs.{declared.notes.CoinTip.{CoinTip}, declared.notes.LeafRecord.{LeafRecord}, declared.notes.Notes.{Notes}}
 use Rattle.leaf_journal.specs.Records.{messages_of}
-use Rattle.node_rules.specs.declared.identity.WalletIdentity.{WalletIdentity}
-use Rattle.node_rules.specs.Kept.{kept_in}
+use Rattle.node_rules.specs.{declared.identity.WalletIdentity.{WalletIdentity}, Kept.{kept_in}}
 
 -- ---- the identity
 

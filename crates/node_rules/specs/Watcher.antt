@@ -2,21 +2,11 @@
 use Rattle.std.specs.Prelude.{ℕ, ◌+◌, ◌==◌, ◌&&◌, ◌||◌, not, Bool, true, false, nat_lt, if◌then◌else◌, List, [], ◌∷◌, ◌++◌, length, drop, filter, reverse, slice_range, Option, Some, None, is_some, Result, Ok, Err}
 use Rattle.std.specs.List.{list_any, flat_map, filter_map}
 use Rattle.std.specs.Option.{option_map_or}
-use Rattle.node_journal.specs.Effect.{Effect, only, first_cause, unless}
-use Rattle.node_journal.specs.Role.{Kinds}
-use Rattle.plasma_tx.specs.declared.links.Links.{Links}
-use Rattle.plasma_tx.specs.declared.call.RootCall.{RootCall}
-use Rattle.plasma_tx.specs.Links.{tip_of}
-use Rattle.plasma_tx.specs.Spelling.{number_text, number_at}
-use Rattle.plasma_tx.specs.Views.{is_withdrawn}
-use Rattle.coin_history.specs.declared.bundle.Bundle.{Bundle}
-use Rattle.coin_history.specs.declared.refusal.HistoryRefusal.{HistoryRefusal}
-use Rattle.coin_history.specs.Bundles.{bundle_text}
-use Rattle.watch_duty.specs.declared.guard.Guard.{Guard}
-use Rattle.watch_duty.specs.Duty.{due_of}
-use Rattle.node_rules.specs.declared.answers.Accepted.{Accepted}
-use Rattle.node_rules.specs.declared.refusal.WatcherRefusal.{WatcherRefusal}
-use Rattle.node_rules.specs.declared.refusal.WatcherRefusal.TheVariants.{History, Withdrawn, ExitStands, NoteTooLong, NoGuard}
+use Rattle.node_journal.specs.{Effect.{Effect, only, first_cause, unless}, Role.{Kinds}}
+use Rattle.plasma_tx.specs.{declared.links.Links.{Links}, declared.call.RootCall.{RootCall}, Links.{tip_of}, Spelling.{number_text, number_at}, Views.{is_withdrawn}}
+use Rattle.coin_history.specs.{declared.bundle.Bundle.{Bundle}, declared.refusal.HistoryRefusal.{HistoryRefusal}, Bundles.{bundle_text}}
+use Rattle.watch_duty.specs.{declared.guard.Guard.{Guard}, Duty.{due_of}}
+use Rattle.node_rules.specs.{declared.answers.Accepted.{Accepted}, declared.refusal.WatcherRefusal.{WatcherRefusal}, declared.refusal.WatcherRefusal.TheVariants.{History, Withdrawn, ExitStands, NoteTooLong, NoGuard}}
 use Rattle.node_rules.specs.Kept.{kept_of, kept_in, kept_links, links_handed, standing_block, most_note}
 
 -- ---- records

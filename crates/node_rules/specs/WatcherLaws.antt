@@ -3,14 +3,10 @@ use Rattle.std.specs.Prelude.{◌≡◌, ℕ, ◌^◌, ◌<◌, true, List, [], 
 use Rattle.std.specs.List.{filter_map}
 use Rattle.std.specs.Option.{option_map}
 use Rattle.node_journal.specs.Role.{are_of, may_follow}
-use Rattle.plasma_tx.specs.declared.links.Links.{Links}
-use Rattle.plasma_tx.specs.declared.call.RootCall.{RootCall}
-use Rattle.plasma_tx.specs.Spelling.{AreBytes}
+use Rattle.plasma_tx.specs.{declared.links.Links.{Links}, declared.call.RootCall.{RootCall}, Spelling.{AreBytes}}
 use Rattle.coin_history.specs.declared.bundle.Bundle.{Bundle}
-use Rattle.watch_duty.specs.declared.guard.Guard.{Guard}
-use Rattle.watch_duty.specs.Duty.{due_calls}
-use Rattle.node_rules.specs.Kept.{kept_of, kept_links, links_handed}
-use Rattle.node_rules.specs.Laws.{IsKeptCoin, IsReadBack}
+use Rattle.watch_duty.specs.{declared.guard.Guard.{Guard}, Duty.{due_calls}}
+use Rattle.node_rules.specs.{Kept.{kept_of, kept_links, links_handed}, Laws.{IsKeptCoin, IsReadBack}}
 use Rattle.node_rules.specs.Watcher.{WatcherIdentity, identity_text, identity_in, Note, Guarded, Released, note_text, note_in, watcher_kinds, who_is, notes_of, guards_in, guard_effect, release_effect, watch_answer}
 
 -- an identity of the type: a tag of 32 bytes and an account of 64 bits

@@ -1,22 +1,15 @@
 -- Inputs that a run of a node answers to their end, over disks that keep records of its role, and inits that are done.
 use Rattle.std.specs.Prelude.{◌≡◌, ℕ, true, false, List, Option, Some, None, Ok}
 use Rattle.crash_disk.specs.Disk.{History, content}
-use Rattle.node_journal.specs.Begin.{is_taken}
-use Rattle.node_journal.specs.Role.{role_in}
+use Rattle.node_journal.specs.{Begin.{is_taken}, Role.{role_in}, Parts.{Parts, alone, both}}
 use Rattle.leaf_journal.specs.Records.{leaf_records_in_of}
-use Rattle.node_rules.specs.Watcher.{watcher_kinds}
-use Rattle.node_rules.specs.Wallet.{WalletRecords}
-use Rattle.node_rules.specs.WalletRecords.{wallet_kinds, is_body}
-use Rattle.node_rules.specs.WalletOpening.{leaves_of, are_bound}
+use Rattle.node_rules.specs.{Watcher.{watcher_kinds}, Wallet.{WalletRecords}, WalletRecords.{wallet_kinds, is_body}, WalletOpening.{leaves_of, are_bound}}
 use Rattle.operator_rules.specs.Records.{operator_kinds, who_is}
-use Rattle.node_journal.specs.Parts.{Parts, alone, both}
-use Rattle.node_roles.specs.Nodes.{Commands, records_do}
-use Rattle.node_roles.specs.Roles.{watcher_commands, operator_commands, desk_commands, wallet_commands}
+use Rattle.node_roles.specs.{Nodes.{Commands, records_do}, Roles.{watcher_commands, operator_commands, desk_commands, wallet_commands}}
 use Rattle.node_sessions.specs.Laws.{KeepTheRules}
 use Rattle.node_runs.specs.Operators.{desk_records_in}
 use Rattle.streamed_lines.specs.Lines.{lines_in}
-use Rattle.run_endings.specs.declared.status.Status.{Status}
-use Rattle.run_endings.specs.Statuses.{IsDoneUnlessFailed}
+use Rattle.run_endings.specs.{declared.status.Status.{Status}, Statuses.{IsDoneUnlessFailed}}
 
 -- over disks that tell their history, and under a digest; a run whose source had this left, and that has this status
 module _ {D : Type 0} (told : D → Option History) (dig : List ℕ → List ℕ) (left : Option (List ℕ)) (status : Status)

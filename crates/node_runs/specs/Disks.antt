@@ -1,14 +1,11 @@
 -- Where a run leaves a node's disks.
 use Rattle.std.specs.Prelude.{◌≡◌, ℕ, ◌<◌, true, List, Option}
 use Rattle.plasma_base.specs.Causes.{faults_after}
-use Rattle.crash_disk.specs.Disk.{History}
-use Rattle.crash_disk.specs.Calls.{WhereTold, failed_after}
+use Rattle.crash_disk.specs.{Disk.{History}, Calls.{WhereTold, failed_after}}
 use Rattle.gate_journal.specs.Journal.{IsSettled}
-use Rattle.node_journal.specs.Notes.{NotesState, KeepsAtAnyMoment}
+use Rattle.node_journal.specs.{Notes.{NotesState, KeepsAtAnyMoment}, Parts.{Parts, of_each, OfEach}}
 use Rattle.node_answers.specs.Answers.{Outcome}
-use Rattle.node_roles.specs.Notes.{NotesAt, told_after}
-use Rattle.node_journal.specs.Parts.{Parts, of_each, OfEach}
-use Rattle.node_roles.specs.Parts.{EachFails}
+use Rattle.node_roles.specs.{Notes.{NotesAt, told_after}, Parts.{EachFails}}
 
 -- over disks that tell their history and count their faults
 module _ {D : Type 0} (told : D → Option History) (faults : D → ℕ) where

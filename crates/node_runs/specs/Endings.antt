@@ -1,13 +1,8 @@
 -- What a run of a node writes whose disks are not opened or not begun, and what one writes of an init.
 use Rattle.std.specs.Prelude.{[], ◌∷◌, ◌++◌, codes, Result, Ok, Err}
-use Rattle.gate_journal.specs.declared.refusal.JournalRefusal.{JournalRefusal}
-use Rattle.gate_journal.specs.declared.refusal.JournalRefusal.TheVariants.{NotJournal as NotJournalRefusal, DeviceFault as DeviceRefusal}
-use Rattle.gate_journal.specs.declared.refusal.InitRefusal.{InitRefusal}
+use Rattle.gate_journal.specs.{declared.refusal.JournalRefusal.{JournalRefusal}, declared.refusal.JournalRefusal.TheVariants.{NotJournal as NotJournalRefusal, DeviceFault as DeviceRefusal}, declared.refusal.InitRefusal.{InitRefusal}}
 use Rattle.gate_journal.specs.declared.refusal.InitRefusal.TheVariants.{AlreadyMade as InitMade, DeviceFault as InitFault, NoMemory as InitNoMemory}
-use Rattle.run_endings.specs.declared.status.Status.TheVariants.{Done, NoMemory, NotJournal, AlreadyMade}
-use Rattle.run_endings.specs.Outputs.{Output}
-use Rattle.run_endings.specs.Texts.{not_journal_text, already_made_text}
-use Rattle.run_endings.specs.Endings.{fault_output}
+use Rattle.run_endings.specs.{declared.status.Status.TheVariants.{Done, NoMemory, NotJournal, AlreadyMade}, Outputs.{Output}, Texts.{not_journal_text, already_made_text}, Endings.{fault_output}}
 
 -- an opening that was refused
 abbrev pub refused_output : JournalRefusal → Output

@@ -1,13 +1,10 @@
 -- What an init of a watcher, an operator or a wallet does.
 use Rattle.std.specs.Prelude.{◌≡◌, ℕ, List, [], ◌∷◌, Option, Result, Err, OnOk}
 use Rattle.plasma_base.specs.Causes.{faults_after}
-use Rattle.crash_disk.specs.Disk.{History, FaultPlan}
-use Rattle.crash_disk.specs.Calls.{WhereTold}
-use Rattle.gate_journal.specs.Journal.{IsSettled}
-use Rattle.gate_journal.specs.declared.refusal.InitRefusal.{InitRefusal}
+use Rattle.crash_disk.specs.{Disk.{History, FaultPlan}, Calls.{WhereTold}}
+use Rattle.gate_journal.specs.{Journal.{IsSettled}, declared.refusal.InitRefusal.{InitRefusal}}
 use Rattle.node_journal.specs.Begin.{init_steps, Inits, is_init_fault, BeginsPair}
-use Rattle.run_endings.specs.declared.status.Status.{Status}
-use Rattle.run_endings.specs.Outputs.{EndsAs}
+use Rattle.run_endings.specs.{declared.status.Status.{Status}, Outputs.{EndsAs}}
 use Rattle.node_runs.specs.Endings.{init_output}
 
 -- over disks that tell their history, foretell their faults and count them; the sink had taken this, before and after,

@@ -2,20 +2,14 @@
 use Rattle.std.specs.Prelude.{◌≡◌, ◌⊎◌, ℕ, List, Option, Some, None, Result}
 use Rattle.crash_disk.specs.Disk.{History, FaultPlan}
 use Rattle.lms_sign.specs.Tree.{public_key_of}
-use Rattle.gate_journal.specs.declared.refusal.JournalRefusal.{JournalRefusal}
-use Rattle.gate_journal.specs.declared.refusal.JournalRefusal.TheVariants.{NoMemory}
-use Rattle.node_journal.specs.Notes.{NotesState, Opened, RefusesRole}
-use Rattle.node_journal.specs.Role.{role_in}
-use Rattle.leaf_journal.specs.Leaves.{leaves_of}
-use Rattle.leaf_journal.specs.Records.{leaf_records_in_of}
+use Rattle.gate_journal.specs.{declared.refusal.JournalRefusal.{JournalRefusal}, declared.refusal.JournalRefusal.TheVariants.{NoMemory}}
+use Rattle.node_journal.specs.{Notes.{NotesState, Opened, RefusesRole}, Role.{role_in}, Parts.{alone, both}}
+use Rattle.leaf_journal.specs.{Leaves.{leaves_of}, Records.{leaf_records_in_of}}
 use Rattle.operator_rules.specs.Records.{operator_kinds, who_is}
-use Rattle.receipt_audit.specs.Promises.{is_promise}
-use Rattle.receipt_audit.specs.Desk.{desk_secret}
-use Rattle.node_journal.specs.Parts.{alone, both}
+use Rattle.receipt_audit.specs.{Promises.{is_promise}, Desk.{desk_secret}}
 use Rattle.node_roles.specs.Roles.{operator_commands, desk_commands}
 use Rattle.run_endings.specs.declared.status.Status.{Status}
-use Rattle.node_runs.specs.Sessions.{Outside}
-use Rattle.node_runs.specs.Runs.{OpensAndRuns, NodeSession}
+use Rattle.node_runs.specs.{Sessions.{Outside}, Runs.{OpensAndRuns, NodeSession}}
 
 -- the records of the leaves of the key that is made of this seed, each of which is bound to a promise, or where an
 -- image spells none

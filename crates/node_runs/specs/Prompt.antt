@@ -1,21 +1,14 @@
 -- That a run of a node answers its lines before it reads more of them.
 use Rattle.std.specs.Prelude.{◌⊎◌, ℕ, Bool, false, List, [], Option, Some, None}
 use Rattle.crash_disk.specs.Disk.{History, FaultPlan}
-use Rattle.node_journal.specs.Notes.{NotesState, Opened}
-use Rattle.node_journal.specs.Role.{role_in}
+use Rattle.node_journal.specs.{Notes.{NotesState, Opened}, Role.{role_in}, Parts.{Parts, alone, both}}
 use Rattle.node_rules.specs.Watcher.{watcher_kinds}
 use Rattle.operator_rules.specs.Records.{operator_kinds, who_is}
-use Rattle.wallet_node.specs.State.{WalletState}
-use Rattle.wallet_node.specs.Opening.{OpensWallet}
-use Rattle.node_journal.specs.Parts.{Parts, alone, both}
-use Rattle.node_roles.specs.Nodes.{Commands}
-use Rattle.node_roles.specs.Roles.{watcher_commands, operator_commands, desk_commands, wallet_commands, wallet_parts}
+use Rattle.wallet_node.specs.{State.{WalletState}, Opening.{OpensWallet}}
+use Rattle.node_roles.specs.{Nodes.{Commands}, Roles.{watcher_commands, operator_commands, desk_commands, wallet_commands, wallet_parts}}
 use Rattle.node_sessions.specs.Sessions.{begun}
-use Rattle.streamed_lines.specs.Outside.{Gave}
-use Rattle.streamed_lines.specs.Prompt.{answers_so_far, AnswersPromptly}
-use Rattle.node_runs.specs.Sessions.{Outside}
-use Rattle.node_runs.specs.Runs.{node_rules, node_found}
-use Rattle.node_runs.specs.Operators.{desk_records_in}
+use Rattle.streamed_lines.specs.{Outside.{Gave}, Prompt.{answers_so_far, AnswersPromptly}}
+use Rattle.node_runs.specs.{Sessions.{Outside}, Runs.{node_rules, node_found}, Operators.{desk_records_in}}
 
 -- a run that did this outside, and whose last take failed or didn't
 module _ (outside : Outside) (failed_last : Bool) where

@@ -2,24 +2,14 @@
 use Rattle.std.specs.Prelude.{◌⊎◌, ℕ, false, List, [], Option}
 use Rattle.crash_disk.specs.Disk.{History, FaultPlan}
 use Rattle.gate_journal.specs.declared.refusal.JournalRefusal.{JournalRefusal}
-use Rattle.node_journal.specs.Notes.{NotesState, Opened, RefusesRole}
-use Rattle.node_journal.specs.Role.{role_in}
+use Rattle.node_journal.specs.{Notes.{NotesState, Opened, RefusesRole}, Role.{role_in}, Parts.{Parts, alone, both}}
 use Rattle.node_rules.specs.Watcher.{watcher_kinds}
-use Rattle.wallet_node.specs.State.{WalletState}
-use Rattle.wallet_node.specs.Opening.{OpensWallet, RefusesWallet}
-use Rattle.node_roles.specs.Notes.{NotesAt, with_note}
-use Rattle.node_journal.specs.Parts.{Parts, alone, both}
-use Rattle.node_roles.specs.Parts.{with_effect}
-use Rattle.node_roles.specs.Nodes.{NodeAt, Commands, outcome_at, node_does}
-use Rattle.node_roles.specs.Roles.{watcher_commands, wallet_commands, wallet_parts}
+use Rattle.wallet_node.specs.{State.{WalletState}, Opening.{OpensWallet, RefusesWallet}}
+use Rattle.node_roles.specs.{Notes.{NotesAt, with_note}, Parts.{with_effect}, Nodes.{NodeAt, Commands, outcome_at, node_does}, Roles.{watcher_commands, wallet_commands, wallet_parts}}
 use Rattle.node_sessions.specs.Sessions.{SessionState, session_rules}
-use Rattle.streamed_lines.specs.Streams.{Rules}
-use Rattle.streamed_lines.specs.Outside.{Gave}
-use Rattle.run_endings.specs.declared.status.Status.{Status}
-use Rattle.run_endings.specs.Outputs.{EndsAs}
-use Rattle.node_runs.specs.Endings.{refused_output}
-use Rattle.node_runs.specs.Disks.{node_opened, KeepsNode, NodeFailed}
-use Rattle.node_runs.specs.Sessions.{Outside, RunsSession}
+use Rattle.streamed_lines.specs.{Streams.{Rules}, Outside.{Gave}}
+use Rattle.run_endings.specs.{declared.status.Status.{Status}, Outputs.{EndsAs}}
+use Rattle.node_runs.specs.{Endings.{refused_output}, Disks.{node_opened, KeepsNode, NodeFailed}, Sessions.{Outside, RunsSession}}
 
 -- an opening was refused for this: nothing was read, and the run says why
 pub record RefusedRun (why : JournalRefusal) (outside : Outside) (status : Status) : Type 0 where

@@ -1,15 +1,9 @@
 -- What a session of a node does, from its first line to its last.
 use Rattle.std.specs.Prelude.{◌≡◌, ◌⊎◌, ℕ, Bool, List, ◌++◌, Option, Some}
 use Rattle.plasma_tx.specs.declared.call.RootCall.{RootCall}
-use Rattle.streamed_lines.specs.Streams.{Rules, Stream, Streamed, stream_of}
-use Rattle.streamed_lines.specs.Bounds.{TakesFew}
-use Rattle.streamed_lines.specs.Outside.{Gave, WroteFront}
-use Rattle.streamed_lines.specs.Reading.{RunsTo, MayBeAnswered, next_text}
+use Rattle.streamed_lines.specs.{Streams.{Rules, Stream, Streamed, stream_of}, Bounds.{TakesFew}, Outside.{Gave, WroteFront}, Reading.{RunsTo, MayBeAnswered, next_text}}
 use Rattle.node_sessions.specs.Sessions.{SessionState, begun, calls_of, commanded}
-use Rattle.run_endings.specs.declared.status.Status.{Status}
-use Rattle.run_endings.specs.declared.status.Status.TheVariants.{WriteFault, NoMemory}
-use Rattle.run_endings.specs.Outputs.{EndsAs}
-use Rattle.run_endings.specs.Endings.{session_output, fault_output}
+use Rattle.run_endings.specs.{declared.status.Status.{Status}, declared.status.Status.TheVariants.{WriteFault, NoMemory}, Outputs.{EndsAs}, Endings.{session_output, fault_output}}
 
 -- what the source of a run had left and its sink had taken, before and after, where they tell it
 pub record Outside : Type 0 where

@@ -3,26 +3,11 @@ use Rattle.std.specs.Prelude.{◌≡◌, ℕ, ◌+◌, ◌^◌, ◌<◌, true, L
 use Rattle.std.specs.List.{Contains}
 use Rattle.std.specs.Str.{bytes_eq}
 use Rattle.node_journal.specs.Role.{are_of, may_follow}
-use Rattle.sparse_merkle.specs.declared.tree.Entry.{Entry}
-use Rattle.sparse_merkle.specs.TreeDigest.{leaf_of, root_of}
-use Rattle.plasma_tx.specs.declared.owner.Owner.{Owner}
-use Rattle.plasma_tx.specs.declared.signed_tx.SignedTx.{SignedTx}
-use Rattle.plasma_tx.specs.declared.links.Links.{Links}
-use Rattle.plasma_tx.specs.declared.call.RootCall.{RootCall}
-use Rattle.plasma_tx.specs.declared.call.RootCall.TheVariants.{Commit}
-use Rattle.plasma_tx.specs.declared.views.CoinView.{CoinView}
-use Rattle.plasma_tx.specs.Links.{last_owner_of}
-use Rattle.plasma_tx.specs.Spelling.{signed_in, AreBytes}
-use Rattle.plasma_tx.specs.Transfer.{may_stand_in}
-use Rattle.plasma_tx.specs.Views.{blocks, coin_at}
-use Rattle.plasma_tx.specs.Shown.{Rules, tests_by}
-use Rattle.coin_history.specs.declared.bundle.Bundle.{Bundle}
-use Rattle.coin_history.specs.Bundles.{IsBundle}
-use Rattle.coin_history.specs.Checking.{history_of}
-use Rattle.operator_rules.specs.Records.{Note, Offered, Laid, Sealed, operator_kinds, who_is, notes_of}
-use Rattle.operator_rules.specs.Trees.{forest_of, tree_of, commits}
-use Rattle.operator_rules.specs.Walk.{place_at, present}
-use Rattle.operator_rules.specs.Commands.{offer_of, offer_effect, lay_effect, seal_effect, bundle_of}
+use Rattle.sparse_merkle.specs.{declared.tree.Entry.{Entry}, TreeDigest.{leaf_of, root_of}}
+use Rattle.plasma_tx.specs.{declared.owner.Owner.{Owner}, declared.signed_tx.SignedTx.{SignedTx}, declared.links.Links.{Links}, declared.call.RootCall.{RootCall}, declared.call.RootCall.TheVariants.{Commit}}
+use Rattle.plasma_tx.specs.{declared.views.CoinView.{CoinView}, Links.{last_owner_of}, Spelling.{signed_in, AreBytes}, Transfer.{may_stand_in}, Views.{blocks, coin_at}, Shown.{Rules, tests_by}}
+use Rattle.coin_history.specs.{declared.bundle.Bundle.{Bundle}, Bundles.{IsBundle}, Checking.{history_of}}
+use Rattle.operator_rules.specs.{Records.{Note, Offered, Laid, Sealed, operator_kinds, who_is, notes_of}, Trees.{forest_of, tree_of, commits}, Walk.{place_at, present}, Commands.{offer_of, offer_effect, lay_effect, seal_effect, bundle_of}}
 
 -- ---- what happens, the newest first
 

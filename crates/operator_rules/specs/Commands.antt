@@ -1,31 +1,14 @@
 -- What each command of the operator answers, and the record that it adds, by its records and the log.
 use Rattle.std.specs.Prelude.{ℕ, ◌==◌, not, Bool, nat_lt, nat_le, if◌then◌else◌, List, [], ◌∷◌, ◌++◌, length, Option, Some, None, Result, Ok, Err}
 use Rattle.node_journal.specs.Effect.{Effect, only, first_cause, unless}
-use Rattle.sparse_merkle.specs.declared.tree.Entry.{Entry}
-use Rattle.sparse_merkle.specs.TreeDigest.{root_of}
-use Rattle.plasma_tx.specs.declared.opening.RawOpening.{RawOpening}
-use Rattle.plasma_tx.specs.declared.signed_tx.SignedTx.{SignedTx}
-use Rattle.plasma_tx.specs.declared.signed_tx.TxRefusal.{TxRefusal}
-use Rattle.plasma_tx.specs.declared.call.RootCall.{RootCall}
-use Rattle.plasma_tx.specs.declared.call.RootCall.TheVariants.{Commit}
-use Rattle.plasma_tx.specs.declared.views.CoinView.{CoinView}
-use Rattle.plasma_tx.specs.Spelling.{signed_in}
-use Rattle.plasma_tx.specs.Transfer.{is_signed_by}
-use Rattle.plasma_tx.specs.Views.{blocks, coin_at}
-use Rattle.coin_history.specs.declared.bundle.Bundle.{Bundle}
-use Rattle.coin_history.specs.History.{committed_blocks}
-use Rattle.coin_history.specs.Checking.{may_be_tip}
-use Rattle.operator_rules.specs.declared.TheConstants.{MOST_LAID}
-use Rattle.operator_rules.specs.declared.sealed.Sealed.{Sealed as SealedPool}
-use Rattle.operator_rules.specs.declared.refusal.OfferRefusal.{OfferRefusal}
-use Rattle.operator_rules.specs.declared.refusal.OfferRefusal.TheVariants.{NotTransfer, NoCoin, WrongParent, BadSignature, TooLate, PoolHasCoin}
-use Rattle.operator_rules.specs.declared.refusal.LayRefusal.{LayRefusal}
-use Rattle.operator_rules.specs.declared.refusal.LayRefusal.TheVariants.{LeafTooLong}
-use Rattle.operator_rules.specs.declared.refusal.SealRefusal.{SealRefusal}
-use Rattle.operator_rules.specs.declared.refusal.ProveRefusal.{ProveRefusal}
-use Rattle.operator_rules.specs.declared.refusal.ProveRefusal.TheVariants.{NoCoin as NoSuchCoin, UnknownBlock}
-use Rattle.operator_rules.specs.Records.{Offered, Laid, Sealed, note_text, who_is, notes_of}
-use Rattle.operator_rules.specs.Trees.{Forest, forest_of, tree_at, opening_in_tree, is_waiting}
+use Rattle.sparse_merkle.specs.{declared.tree.Entry.{Entry}, TreeDigest.{root_of}}
+use Rattle.plasma_tx.specs.{declared.opening.RawOpening.{RawOpening}, declared.signed_tx.SignedTx.{SignedTx}, declared.signed_tx.TxRefusal.{TxRefusal}, declared.call.RootCall.{RootCall}, declared.call.RootCall.TheVariants.{Commit}}
+use Rattle.plasma_tx.specs.{declared.views.CoinView.{CoinView}, Spelling.{signed_in}, Transfer.{is_signed_by}, Views.{blocks, coin_at}}
+use Rattle.coin_history.specs.{declared.bundle.Bundle.{Bundle}, History.{committed_blocks}, Checking.{may_be_tip}}
+use Rattle.operator_rules.specs.{declared.TheConstants.{MOST_LAID}, declared.sealed.Sealed.{Sealed as SealedPool}, declared.refusal.OfferRefusal.{OfferRefusal}}
+use Rattle.operator_rules.specs.{declared.refusal.OfferRefusal.TheVariants.{NotTransfer, NoCoin, WrongParent, BadSignature, TooLate, PoolHasCoin}, declared.refusal.LayRefusal.{LayRefusal}}
+use Rattle.operator_rules.specs.{declared.refusal.LayRefusal.TheVariants.{LeafTooLong}, declared.refusal.SealRefusal.{SealRefusal}, declared.refusal.ProveRefusal.{ProveRefusal}}
+use Rattle.operator_rules.specs.{declared.refusal.ProveRefusal.TheVariants.{NoCoin as NoSuchCoin, UnknownBlock}, Records.{Offered, Laid, Sealed, note_text, who_is, notes_of}, Trees.{Forest, forest_of, tree_at, opening_in_tree, is_waiting}}
 use Rattle.operator_rules.specs.Walk.{Place, present}
 
 -- what records leave

@@ -3,15 +3,9 @@ use Rattle.std.specs.Prelude.{ℕ, ◌&&◌, ◌||◌, not, Bool, List, [], ◌�
 use Rattle.std.specs.List.{list_any}
 use Rattle.std.specs.Option.{option_and_then}
 use Rattle.std.specs.Str.{bytes_eq}
-use Rattle.sparse_merkle.specs.declared.tree.Entry.{Entry}
-use Rattle.sparse_merkle.specs.TreeDigest.{leaf_of, with_leaf, root_of, path_to}
-use Rattle.sparse_merkle.specs.PathProof.{proof_of_path}
-use Rattle.plasma_tx.specs.declared.opening.RawOpening.{RawOpening}
-use Rattle.plasma_tx.specs.declared.call.RootCall.{RootCall}
-use Rattle.plasma_tx.specs.Openings.{raw_of}
-use Rattle.plasma_tx.specs.Spelling.{number_at}
+use Rattle.sparse_merkle.specs.{declared.tree.Entry.{Entry}, TreeDigest.{leaf_of, with_leaf, root_of, path_to}, PathProof.{proof_of_path}}
+use Rattle.plasma_tx.specs.{declared.opening.RawOpening.{RawOpening}, declared.call.RootCall.{RootCall}, Openings.{raw_of}, Spelling.{number_at}, Shown.{root_at}}
 pub use Rattle.plasma_tx.specs.Views.{commits, is_root_committed}
-use Rattle.plasma_tx.specs.Shown.{root_at}
 use Rattle.coin_history.specs.History.{is_empty}
 use Rattle.operator_rules.specs.Records.{Note, Offered, Laid, Sealed}
 

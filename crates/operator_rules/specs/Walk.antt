@@ -1,14 +1,8 @@
 -- Where a coin is by the operator's trees.
 use Rattle.std.specs.Prelude.{ℕ, zero, suc, ◌==◌, ◌&&◌, nat_lt, if◌then◌else◌, List, Option, Some, None}
 use Rattle.std.specs.Option.{option_and_then}
-use Rattle.sparse_merkle.specs.declared.tree.Entry.{Entry}
-use Rattle.sparse_merkle.specs.TreeDigest.{leaf_of}
-use Rattle.plasma_tx.specs.declared.owner.Owner.{Owner}
-use Rattle.plasma_tx.specs.declared.signed_tx.SignedTx.{SignedTx}
-use Rattle.plasma_tx.specs.declared.call.RootCall.{RootCall}
-use Rattle.plasma_tx.specs.declared.views.CoinView.{CoinView}
-use Rattle.plasma_tx.specs.Transfer.{transfer_in, is_signed_by}
-use Rattle.plasma_tx.specs.Views.{blocks}
+use Rattle.sparse_merkle.specs.{declared.tree.Entry.{Entry}, TreeDigest.{leaf_of}}
+use Rattle.plasma_tx.specs.{declared.owner.Owner.{Owner}, declared.signed_tx.SignedTx.{SignedTx}, declared.call.RootCall.{RootCall}, declared.views.CoinView.{CoinView}, Transfer.{transfer_in, is_signed_by}, Views.{blocks}}
 use Rattle.operator_rules.specs.Trees.{tree_at}
 
 -- a block that a coin came to, and its owner there

@@ -1,17 +1,8 @@
 -- What an accepted call shows.
 use Rattle.std.specs.Prelude.{◌≡◌, ℕ, ◌+◌, ◌<◌, ◌≤◌, true, false, List, Some, None}
-use Rattle.plasma_tx.specs.declared.rules.TheConstants.{EXIT_BOND, CHALLENGE_BOND, CHALLENGE_WINDOW, RESPONSE_WINDOW, EXIT_PERIOD}
-use Rattle.plasma_tx.specs.declared.owner.Owner.{Owner}
-use Rattle.plasma_tx.specs.declared.opening.RawOpening.{RawOpening}
-use Rattle.plasma_tx.specs.declared.signed_tx.SignedTx.{SignedTx}
-use Rattle.plasma_tx.specs.declared.call.Shown.{Shown}
-use Rattle.plasma_tx.specs.declared.call.RootCall.{RootCall}
-use Rattle.plasma_tx.specs.declared.views.CoinView.{CoinView}
-use Rattle.plasma_tx.specs.Openings.{leaf_in}
-use Rattle.plasma_tx.specs.Transfer.{transfer_in}
-use Rattle.plasma_tx.specs.Views.{now, blocks, coin_at, Challenge, Exit, exit_at, challenge_at, block_of, is_withdrawn}
-use Rattle.plasma_tx.specs.Shown.{Tests, Rules, root_at, shown_owner}
-use Rattle.plasma_tx.specs.Table.{is_key, is_committed_after, is_parent_of, is_before_parent}
+use Rattle.plasma_tx.specs.{declared.rules.TheConstants.{EXIT_BOND, CHALLENGE_BOND, CHALLENGE_WINDOW, RESPONSE_WINDOW, EXIT_PERIOD}, declared.owner.Owner.{Owner}, declared.opening.RawOpening.{RawOpening}}
+use Rattle.plasma_tx.specs.{declared.signed_tx.SignedTx.{SignedTx}, declared.call.Shown.{Shown}, declared.call.RootCall.{RootCall}, declared.views.CoinView.{CoinView}, Openings.{leaf_in}, Transfer.{transfer_in}}
+use Rattle.plasma_tx.specs.{Views.{now, blocks, coin_at, Challenge, Exit, exit_at, challenge_at, block_of, is_withdrawn}, Shown.{Tests, Rules, root_at, shown_owner}, Table.{is_key, is_committed_after, is_parent_of, is_before_parent}}
 use Rattle.plasma_tx.specs.Money.{balance_of}
 
 -- An opening of the coin shows the transfer: it opens the root of its block, which was committed, and its leaf is a

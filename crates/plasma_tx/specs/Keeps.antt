@@ -4,10 +4,7 @@ use Rattle.std.specs.Ordering.{nat_cmp}
 use Rattle.std.specs.Cmp.Lexicographic.{slice_cmp}
 use Rattle.std.specs.BTreeMap.{BTreeMap, get}
 use Rattle.std.specs.BTreeSet.{BTreeSet, contains, IsOrdered}
-use Rattle.plasma_tx.specs.declared.call.RootCall.{RootCall}
-use Rattle.plasma_tx.specs.declared.coin_states.States.{States}
-use Rattle.plasma_tx.specs.declared.kept.Kept.{Kept}
-use Rattle.plasma_tx.specs.Views.{now, blocks, coins, block_at, coin_at, has_exits, is_root_committed, deposits_of}
+use Rattle.plasma_tx.specs.{declared.call.RootCall.{RootCall}, declared.coin_states.States.{States}, declared.kept.Kept.{Kept}, Views.{now, blocks, coins, block_at, coin_at, has_exits, is_root_committed, deposits_of}}
 use Rattle.plasma_tx.specs.Standing.{Standing, no_standing, standing_of}
 
 -- item n, counted from 1

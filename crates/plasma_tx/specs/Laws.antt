@@ -2,11 +2,8 @@
 use Rattle.std.specs.Prelude.{◌≡◌, ℕ, ◌+◌, ◌<◌, ◌==◌, ◌&&◌, ◌||◌, not, Bool, true, false, if◌then◌else◌, List, [], ◌∷◌, length, reverse, filter, find, slice_get, Option, Some, None, is_some}
 use Rattle.std.specs.List.{AllPairs}
 use Rattle.std.specs.Option.{option_map, option_map_or, option_or}
-use Rattle.plasma_tx.specs.declared.call.RootCall.{RootCall}
-use Rattle.plasma_tx.specs.declared.call.RootCall.TheVariants.{Tick, Deposit, Commit, StartDeposit, StartSpend, After, Between, Before, Respond, Finish}
-use Rattle.plasma_tx.specs.declared.views.BlockView.{BlockView}
-use Rattle.plasma_tx.specs.declared.views.BlockView.TheVariants.{DepositOf, Root}
-use Rattle.plasma_tx.specs.declared.views.CoinView.{CoinView}
+use Rattle.plasma_tx.specs.{declared.call.RootCall.{RootCall}, declared.call.RootCall.TheVariants.{Tick, Deposit, Commit, StartDeposit, StartSpend, After, Between, Before, Respond, Finish}, declared.views.BlockView.{BlockView}}
+use Rattle.plasma_tx.specs.{declared.views.BlockView.TheVariants.{DepositOf, Root}, declared.views.CoinView.{CoinView}}
 use Rattle.plasma_tx.specs.Views.{now, blocks, coins, block_at, coin_at, Challenge, Exit, block_of, owner_of, deposit_exit, spend_exit, challenge_at, exits, exit_at, has_no_open_challenge, is_withdrawn, is_responded, responses}
 
 -- ---- the clock, blocks and coins

@@ -1,9 +1,7 @@
 -- Where a coin's history ends, and who owns the coin there.
 use Rattle.std.specs.Prelude.{ℕ, ◌-◌, length, Option, slice_get}
 use Rattle.std.specs.Option.{option_map_or}
-use Rattle.plasma_tx.specs.declared.owner.Owner.{Owner}
-use Rattle.plasma_tx.specs.declared.links.Link.{Link}
-use Rattle.plasma_tx.specs.declared.links.Links.{Links}
+use Rattle.plasma_tx.specs.{declared.owner.Owner.{Owner}, declared.links.Link.{Link}, declared.links.Links.{Links}}
 
 -- the last spend, if there is one
 abbrev pub last_spend : Links → Option Link

@@ -2,11 +2,8 @@
 -- the sums.
 use Rattle.std.specs.Prelude.{ℕ, zero, suc, ◌+◌, ◌-◌, ◌*◌, ◌<◌, ◌==◌, not, Bool, true, false, if◌then◌else◌, List, [], ◌∷◌, ◌++◌, length, map, filter, Option, Some, None}
 use Rattle.std.specs.List.{AllByRecursion}
-use Rattle.plasma_tx.specs.declared.rules.TheConstants.{EXIT_BOND, CHALLENGE_BOND}
-use Rattle.plasma_tx.specs.declared.movement.Movement.{Movement}
-use Rattle.plasma_tx.specs.declared.call.RootCall.{RootCall}
-use Rattle.plasma_tx.specs.declared.call.RootCall.TheVariants.{Fund, Tick, Deposit, Commit, StartDeposit, StartSpend, After, Between, Before, Respond, Finish}
-use Rattle.plasma_tx.specs.declared.views.CoinView.{CoinView}
+use Rattle.plasma_tx.specs.{declared.rules.TheConstants.{EXIT_BOND, CHALLENGE_BOND}, declared.movement.Movement.{Movement}, declared.call.RootCall.{RootCall}}
+use Rattle.plasma_tx.specs.{declared.call.RootCall.TheVariants.{Fund, Tick, Deposit, Commit, StartDeposit, StartSpend, After, Between, Before, Respond, Finish}, declared.views.CoinView.{CoinView}}
 use Rattle.plasma_tx.specs.Views.{coins, coin_at, Challenge, Exit, exits, exit_at, challenge_at, is_withdrawn}
 
 -- the movement of an amount to or from an account

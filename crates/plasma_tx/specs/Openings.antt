@@ -2,12 +2,8 @@
 use Rattle.std.specs.Prelude.{◌≡◌, ℕ, ◌+◌, ◌^◌, ◌<◌, ◌≤◌, true, nat_le, if◌then◌else◌, List, ◌++◌, length, take, drop, Result, Ok, Err}
 use Rattle.std.specs.Int.{w32, to_be_bytes, from_be_bytes}
 use Rattle.std.specs.List.{All}
-use Rattle.sparse_merkle.specs.declared.proof.ProofRefusal.{ProofRefusal}
-use Rattle.sparse_merkle.specs.MaskedPath.{MaskedPath, IsMaskedPath, is_canonical, proof_text, has_proof_length, proof_in}
-use Rattle.plasma_tx.specs.declared.opening.RawOpening.{RawOpening}
-use Rattle.plasma_tx.specs.declared.opening.Opening.{Opening}
-use Rattle.plasma_tx.specs.declared.opening.OpeningRefusal.{OpeningRefusal}
-use Rattle.plasma_tx.specs.declared.opening.OpeningRefusal.TheVariants.{Unreadable}
+use Rattle.sparse_merkle.specs.{declared.proof.ProofRefusal.{ProofRefusal}, MaskedPath.{MaskedPath, IsMaskedPath, is_canonical, proof_text, has_proof_length, proof_in}}
+use Rattle.plasma_tx.specs.{declared.opening.RawOpening.{RawOpening}, declared.opening.Opening.{Opening}, declared.opening.OpeningRefusal.{OpeningRefusal}, declared.opening.OpeningRefusal.TheVariants.{Unreadable}}
 
 -- the bytes of an opening
 unfoldable pub opening_text : Opening → List ℕ

@@ -1,20 +1,10 @@
 -- What holds of every list of calls.
 use Rattle.std.specs.Prelude.{◌≡◌, ◌⊎◌, ◌↔◌, ℕ, ◌+◌, ◌≤◌, ◌==◌, ◌&&◌, ◌||◌, Bool, true, false, List, [], ◌∷◌, Some, None}
 use Rattle.std.specs.List.{AllByRecursion}
-use Rattle.plasma_tx.specs.declared.rules.TheConstants.{LAST_TIME, MOST_MONEY}
-use Rattle.plasma_tx.specs.declared.owner.Owner.{Owner}
-use Rattle.plasma_tx.specs.declared.opening.RawOpening.{RawOpening}
-use Rattle.plasma_tx.specs.declared.signed_tx.SignedTx.{SignedTx}
-use Rattle.plasma_tx.specs.declared.call.Shown.{Shown}
-use Rattle.plasma_tx.specs.declared.call.RootCall.{RootCall}
-use Rattle.plasma_tx.specs.declared.call.RootCall.TheVariants.{Fund, Tick, Deposit, Commit, StartDeposit, StartSpend, After, Between, Before, Respond, Finish}
-use Rattle.plasma_tx.specs.declared.answer.Answer.{Answer}
-use Rattle.plasma_tx.specs.declared.answer.Answer.TheVariants.{Paid, Refused}
-use Rattle.plasma_tx.specs.declared.answer.Refusal.{Refusal}
-use Rattle.plasma_tx.specs.Views.{now, Exit, exits, exit_at, owner_of, is_withdrawn}
-use Rattle.plasma_tx.specs.Shown.{Tests, Rules, shown_tx, shown_owner}
-use Rattle.plasma_tx.specs.Table.{answer_to, is_accepted, is_payable, log_after, IsLegal}
-use Rattle.plasma_tx.specs.Money.{sum_below, share_of, takes, releases, balance_of, held_of, held, funded, AccountsBelow}
+use Rattle.plasma_tx.specs.{declared.rules.TheConstants.{LAST_TIME, MOST_MONEY}, declared.owner.Owner.{Owner}, declared.opening.RawOpening.{RawOpening}, declared.signed_tx.SignedTx.{SignedTx}, declared.call.Shown.{Shown}}
+use Rattle.plasma_tx.specs.{declared.call.RootCall.{RootCall}, declared.call.RootCall.TheVariants.{Fund, Tick, Deposit, Commit, StartDeposit, StartSpend, After, Between, Before, Respond, Finish}, declared.answer.Answer.{Answer}}
+use Rattle.plasma_tx.specs.{declared.answer.Answer.TheVariants.{Paid, Refused}, declared.answer.Refusal.{Refusal}, Views.{now, Exit, exits, exit_at, owner_of, is_withdrawn}, Shown.{Tests, Rules, shown_tx, shown_owner}}
+use Rattle.plasma_tx.specs.{Table.{answer_to, is_accepted, is_payable, log_after, IsLegal}, Money.{sum_below, share_of, takes, releases, balance_of, held_of, held, funded, AccountsBelow}}
 use Rattle.plasma_tx.specs.Accepted.{ShowsTx, Deposits, Commits, StartsDeposit, StartsSpend, CancelsAfter, CancelsBetween, Challenges, Responds, Finishes}
 
 -- ---- legal logs

@@ -1,22 +1,10 @@
 -- What a call shows: openings of committed roots, and the transfers in them.
 use Rattle.std.specs.Prelude.{ℕ, ◌==◌, Bool, false, if◌then◌else◌, List, Option, Some, None, Result, Ok, Err}
 use Rattle.std.specs.Option.{option_map, option_and_then}
-use Rattle.sparse_merkle.specs.MaskedPath.{proof_path}
-use Rattle.sparse_merkle.specs.Opening.{is_opening}
-use Rattle.plasma_tx.specs.declared.owner.Owner.{Owner}
-use Rattle.plasma_tx.specs.declared.opening.RawOpening.{RawOpening}
-use Rattle.plasma_tx.specs.declared.opening.Opening.{Opening}
-use Rattle.plasma_tx.specs.declared.opening.OpeningRefusal.{OpeningRefusal}
-use Rattle.plasma_tx.specs.declared.signed_tx.SignedTx.{SignedTx}
-use Rattle.plasma_tx.specs.declared.call.Shown.{Shown}
-use Rattle.plasma_tx.specs.declared.call.Shown.TheVariants.{Deposit as AtDeposit, Spend}
-use Rattle.plasma_tx.specs.declared.call.RootCall.{RootCall}
-use Rattle.plasma_tx.specs.declared.views.BlockView.{BlockView}
-use Rattle.plasma_tx.specs.declared.views.BlockView.TheVariants.{DepositOf, Root}
-use Rattle.plasma_tx.specs.Chain.{Chain}
-use Rattle.plasma_tx.specs.Openings.{leaf_in, opening_in}
-use Rattle.plasma_tx.specs.Transfer.{transfer_in, is_signed_by}
-use Rattle.plasma_tx.specs.Views.{block_at, coin_at}
+use Rattle.sparse_merkle.specs.{MaskedPath.{proof_path}, Opening.{is_opening}}
+use Rattle.plasma_tx.specs.{declared.owner.Owner.{Owner}, declared.opening.RawOpening.{RawOpening}, declared.opening.Opening.{Opening}, declared.opening.OpeningRefusal.{OpeningRefusal}, declared.signed_tx.SignedTx.{SignedTx}}
+use Rattle.plasma_tx.specs.{declared.call.Shown.{Shown}, declared.call.Shown.TheVariants.{Deposit as AtDeposit, Spend}, declared.call.RootCall.{RootCall}, declared.views.BlockView.{BlockView}}
+use Rattle.plasma_tx.specs.{declared.views.BlockView.TheVariants.{DepositOf, Root}, Chain.{Chain}, Openings.{leaf_in, opening_in}, Transfer.{transfer_in, is_signed_by}, Views.{block_at, coin_at}}
 
 -- The tests that the rules of a log leave open: whether an opening opens a root at a coin, and whether an owner
 -- signed a transfer. A law that holds for all tests holds under every digest.

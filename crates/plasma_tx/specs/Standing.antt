@@ -1,15 +1,9 @@
 -- What a log keeps of each coin beside its calls, and what a call does to it.
 use Rattle.std.specs.Prelude.{◌≡◌, ℕ, ◌==◌, ◌||◌, not, Bool, true, false, if◌then◌else◌, List, [], ◌∷◌, ◌++◌, Option, Some, None, find, filter, map}
 use Rattle.std.specs.List.{list_all, list_any}
-use Rattle.plasma_tx.specs.declared.call.RootCall.{RootCall}
-use Rattle.plasma_tx.specs.declared.call.RootCall.TheVariants.{StartDeposit, StartSpend, After, Between, Before, Respond, Finish}
-use Rattle.plasma_tx.specs.declared.views.ChallengeView.{ChallengeView}
-use Rattle.plasma_tx.specs.declared.views.ExitView.{ExitView}
-use Rattle.plasma_tx.specs.declared.views.Response.{Response}
-use Rattle.plasma_tx.specs.declared.standing.Change.{Change}
-use Rattle.plasma_tx.specs.declared.standing.Change.TheVariants.{Start, Cancel, Challenge, Respond as Answer, Finish as End}
-use Rattle.plasma_tx.specs.ChallengeLists.{view_with_answer_at, is_challenged}
-use Rattle.plasma_tx.specs.Views.{block_of, exits_of, is_responded, is_withdrawn, responses, without_responses}
+use Rattle.plasma_tx.specs.{declared.call.RootCall.{RootCall}, declared.call.RootCall.TheVariants.{StartDeposit, StartSpend, After, Between, Before, Respond, Finish}, declared.views.ChallengeView.{ChallengeView}}
+use Rattle.plasma_tx.specs.{declared.views.ExitView.{ExitView}, declared.views.Response.{Response}, declared.standing.Change.{Change}, declared.standing.Change.TheVariants.{Start, Cancel, Challenge, Respond as Answer, Finish as End}}
+use Rattle.plasma_tx.specs.{ChallengeLists.{view_with_answer_at, is_challenged}, Views.{block_of, exits_of, is_responded, is_withdrawn, responses, without_responses}}
 
 -- what is kept of a coin: whether it is withdrawn, its standing exits and the responses to its exits
 pub record Standing : Type 0 where

@@ -1,22 +1,13 @@
 -- The answers of the root contract: the first cause in order that holds, else the effect.
 use Rattle.std.specs.Prelude.{◌≡◌, ℕ, ◌+◌, ◌==◌, ◌&&◌, ◌||◌, not, Bool, true, false, if◌then◌else◌, nat_lt, nat_le, List, [], ◌∷◌, Option, Some, None, is_some, is_none}
-use Rattle.lms_sign.specs.Types.{is_supported}
-use Rattle.lms_sign.specs.Valid.{types_of}
-use Rattle.plasma_tx.specs.declared.rules.TheConstants.{EXIT_BOND, CHALLENGE_BOND, CHALLENGE_WINDOW, RESPONSE_WINDOW, EXIT_PERIOD, MOST_MONEY, LAST_TIME}
-use Rattle.plasma_tx.specs.declared.owner.Owner.{Owner}
-use Rattle.plasma_tx.specs.declared.signed_tx.SignedTx.{SignedTx}
-use Rattle.plasma_tx.specs.declared.call.Shown.{Shown}
-use Rattle.plasma_tx.specs.declared.call.Shown.TheVariants.{Deposit as AtDeposit, Spend}
-use Rattle.plasma_tx.specs.declared.call.RootCall.{RootCall}
-use Rattle.plasma_tx.specs.declared.call.RootCall.TheVariants.{Fund, Tick, Deposit, Commit, StartDeposit, StartSpend, After, Between, Before, Respond, Finish}
-use Rattle.plasma_tx.specs.declared.answer.Answer.{Answer}
-use Rattle.plasma_tx.specs.declared.answer.Answer.TheVariants.{Funded, Ticked, Deposited, Committed, Started, Cancelled, Challenged, Responded, Paid, Dropped, Refused, NoMemory}
-use Rattle.plasma_tx.specs.declared.answer.Refusal.{Refusal}
+use Rattle.lms_sign.specs.{Types.{is_supported}, Valid.{types_of}}
+use Rattle.plasma_tx.specs.{declared.rules.TheConstants.{EXIT_BOND, CHALLENGE_BOND, CHALLENGE_WINDOW, RESPONSE_WINDOW, EXIT_PERIOD, MOST_MONEY, LAST_TIME}, declared.owner.Owner.{Owner}, declared.signed_tx.SignedTx.{SignedTx}}
+use Rattle.plasma_tx.specs.{declared.call.Shown.{Shown}, declared.call.Shown.TheVariants.{Deposit as AtDeposit, Spend}, declared.call.RootCall.{RootCall}}
+use Rattle.plasma_tx.specs.{declared.call.RootCall.TheVariants.{Fund, Tick, Deposit, Commit, StartDeposit, StartSpend, After, Between, Before, Respond, Finish}, declared.answer.Answer.{Answer}}
+use Rattle.plasma_tx.specs.{declared.answer.Answer.TheVariants.{Funded, Ticked, Deposited, Committed, Started, Cancelled, Challenged, Responded, Paid, Dropped, Refused, NoMemory}, declared.answer.Refusal.{Refusal}}
 use Rattle.plasma_tx.specs.declared.answer.Refusal.TheVariants.{SumTooLarge, ClockBack, ClockTooLarge, BadAmount, BadKey, NoFunds, TooManyBlocks, NotOperator, NoCoin, Withdrawn, BadBlock, NotOwner, ExitStands, BadOpening, NotChild, BadSignature, NoExit, Late, ChallengeStands, NoChallenge, Answered, Early}
-use Rattle.plasma_tx.specs.declared.views.CoinView.{CoinView}
-use Rattle.plasma_tx.specs.Views.{now, blocks, coins, coin_at, Challenge, Exit, exit_at, challenge_at, block_of, has_no_open_challenge, is_withdrawn}
-use Rattle.plasma_tx.specs.Shown.{Tests, Rules, root_at, shown_tx, shown_owner, spends, signs, goes_to}
-use Rattle.plasma_tx.specs.Money.{balance_of, funded}
+use Rattle.plasma_tx.specs.{declared.views.CoinView.{CoinView}, Views.{now, blocks, coins, coin_at, Challenge, Exit, exit_at, challenge_at, block_of, has_no_open_challenge, is_withdrawn}}
+use Rattle.plasma_tx.specs.{Shown.{Tests, Rules, root_at, shown_tx, shown_owner, spends, signs, goes_to}, Money.{balance_of, funded}}
 
 -- ---- causes, and what decides
 

@@ -1,12 +1,7 @@
 -- The transfer that a leaf of a block spells, and who signed it.
 use Rattle.std.specs.Prelude.{◌≡◌, ℕ, ◌==◌, ◌&&◌, Bool, true, nat_le, if◌then◌else◌, List, [], replicate, slice_range, Option, Some, None, Result, Ok, Err}
-use Rattle.lms_sign.specs.Types.{is_supported}
-use Rattle.lms_sign.specs.Valid.{types_of, is_valid}
-use Rattle.plasma_tx.specs.declared.owner.Owner.{Owner}
-use Rattle.plasma_tx.specs.declared.body.Body.{Body}
-use Rattle.plasma_tx.specs.declared.signed_tx.SignedTx.{SignedTx}
-use Rattle.plasma_tx.specs.declared.signed_tx.TxRefusal.{TxRefusal}
-use Rattle.plasma_tx.specs.Spelling.{body_text, body_in, signed_in}
+use Rattle.lms_sign.specs.{Types.{is_supported}, Valid.{types_of, is_valid}}
+use Rattle.plasma_tx.specs.{declared.owner.Owner.{Owner}, declared.body.Body.{Body}, declared.signed_tx.SignedTx.{SignedTx}, declared.signed_tx.TxRefusal.{TxRefusal}, Spelling.{body_text, body_in, signed_in}}
 
 -- a block may hold a transfer that has no last block, or one that is at least the block
 abbrev pub may_stand_in : ℕ → Option ℕ → Bool

@@ -3,20 +3,10 @@
 use Rattle.std.specs.Prelude.{ℕ, ◌+◌, ◌==◌, ◌&&◌, ◌||◌, not, Bool, true, false, if◌then◌else◌, List, [], ◌∷◌, ◌++◌, Option, Some, None, is_some, find, filter, map}
 use Rattle.std.specs.List.{list_all, list_any}
 use Rattle.std.specs.Str.{bytes_eq}
-use Rattle.plasma_tx.specs.declared.owner.Owner.{Owner}
-use Rattle.plasma_tx.specs.declared.opening.RawOpening.{RawOpening}
-use Rattle.plasma_tx.specs.declared.call.Shown.{Shown}
-use Rattle.plasma_tx.specs.declared.call.Shown.TheVariants.{Deposit as AtDeposit, Spend}
-use Rattle.plasma_tx.specs.declared.call.RootCall.{RootCall}
-use Rattle.plasma_tx.specs.declared.call.RootCall.TheVariants.{Tick, Deposit, Commit, StartDeposit, StartSpend, After, Between, Before, Respond, Finish}
-use Rattle.plasma_tx.specs.declared.views.BlockView.{BlockView}
-use Rattle.plasma_tx.specs.declared.views.BlockView.TheVariants.{DepositOf, Root}
-use Rattle.plasma_tx.specs.declared.views.CoinView.{CoinView}
-use Rattle.plasma_tx.specs.declared.views.ChallengeView.{ChallengeView}
-use Rattle.plasma_tx.specs.declared.views.ExitView.{ExitView}
-use Rattle.plasma_tx.specs.declared.views.Response.{Response}
-use Rattle.plasma_tx.specs.Transfer.{nobody, recipient_in}
-use Rattle.plasma_tx.specs.Openings.{leaf_in}
+use Rattle.plasma_tx.specs.{declared.owner.Owner.{Owner}, declared.opening.RawOpening.{RawOpening}, declared.call.Shown.{Shown}, declared.call.Shown.TheVariants.{Deposit as AtDeposit, Spend}, declared.call.RootCall.{RootCall}}
+use Rattle.plasma_tx.specs.{declared.call.RootCall.TheVariants.{Tick, Deposit, Commit, StartDeposit, StartSpend, After, Between, Before, Respond, Finish}, declared.views.BlockView.{BlockView}}
+use Rattle.plasma_tx.specs.{declared.views.BlockView.TheVariants.{DepositOf, Root}, declared.views.CoinView.{CoinView}, declared.views.ChallengeView.{ChallengeView}, declared.views.ExitView.{ExitView}, declared.views.Response.{Response}}
+use Rattle.plasma_tx.specs.{Transfer.{nobody, recipient_in}, Openings.{leaf_in}}
 
 -- ---- the clock, blocks and coins
 

@@ -6,20 +6,10 @@ use Rattle.std.specs.Map.{lookup}
 use Rattle.std.specs.Option.{option_and_then, option_map_or, unwrap_or}
 use Rattle.std.specs.Ordering.{nat_cmp}
 use Rattle.std.specs.BTreeMap.{is_at}
-use Rattle.plasma_tx.specs.declared.opening.RawOpening.{RawOpening}
-use Rattle.plasma_tx.specs.declared.links.Links.{Links}
-use Rattle.plasma_tx.specs.declared.call.RootCall.{RootCall}
-use Rattle.plasma_tx.specs.declared.views.CoinView.{CoinView}
-use Rattle.plasma_tx.specs.Chain.{Chain}
-use Rattle.plasma_tx.specs.Links.{tip_of}
-use Rattle.plasma_tx.specs.Views.{coin_at}
+use Rattle.plasma_tx.specs.{declared.opening.RawOpening.{RawOpening}, declared.links.Links.{Links}, declared.call.RootCall.{RootCall}, declared.views.CoinView.{CoinView}, Chain.{Chain}, Links.{tip_of}, Views.{coin_at}}
 use Rattle.plasma_tx.specs.Shown.{Tests, tests_by, rules_of}
-use Rattle.coin_history.specs.declared.bundle.Bundle.{Bundle}
-use Rattle.coin_history.specs.History.{committed_blocks, is_committed, opens_block}
-use Rattle.coin_history.specs.Checking.{opening_at}
-use Rattle.proof_archive.specs.declared.refusal.ArchiveRefusal.{ArchiveRefusal}
-use Rattle.proof_archive.specs.declared.refusal.ArchiveRefusal.TheVariants.{NoCoin, UnknownBlock, HaveBlock, Gap, BadOpening, NotTip}
-use Rattle.proof_archive.specs.Scan.{Scan, scan_of}
+use Rattle.coin_history.specs.{declared.bundle.Bundle.{Bundle}, History.{committed_blocks, is_committed, opens_block}, Checking.{opening_at}}
+use Rattle.proof_archive.specs.{declared.refusal.ArchiveRefusal.{ArchiveRefusal}, declared.refusal.ArchiveRefusal.TheVariants.{NoCoin, UnknownBlock, HaveBlock, Gap, BadOpening, NotTip}, Scan.{Scan, scan_of}}
 
 -- what callers see: the chain, the digest, and the openings that were kept of coins, in rising order of these
 pub record ArchiveState (H : Type 0) : Type 0 where

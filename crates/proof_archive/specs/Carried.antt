@@ -5,24 +5,10 @@ use Rattle.std.specs.Option.{option_map_or, unwrap_or}
 use Rattle.std.specs.Ordering.{nat_cmp}
 use Rattle.std.specs.BTreeMap.{BTreeMap, get}
 use Rattle.sparse_merkle.specs.TreeDigest.{AreDefaults}
-use Rattle.plasma_tx.specs.declared.owner.Owner.{Owner}
-use Rattle.plasma_tx.specs.declared.opening.RawOpening.{RawOpening}
-use Rattle.plasma_tx.specs.declared.signed_tx.SignedTx.{SignedTx}
-use Rattle.plasma_tx.specs.declared.links.Link.{Link}
-use Rattle.plasma_tx.specs.declared.links.Links.{Links}
-use Rattle.plasma_tx.specs.declared.call.RootCall.{RootCall}
-use Rattle.plasma_tx.specs.declared.views.CoinView.{CoinView}
-use Rattle.plasma_tx.specs.Chain.{Chain}
-use Rattle.plasma_tx.specs.Links.{tip_of, last_owner_of}
-use Rattle.plasma_tx.specs.Views.{coin_at}
-use Rattle.plasma_tx.specs.Shown.{Tests, Rules, tests_by, rules_of, spends, signs}
-use Rattle.coin_history.specs.History.{blocks_of, committed_blocks, opens_block, is_absent, transfer_of}
-use Rattle.coin_history.specs.Checking.{is_asked}
-use Rattle.coin_history.specs.Inside.{links_with, NoneIsAsked}
-use Rattle.proof_archive.specs.declared.coin.LinkEnd.{LinkEnd}
-use Rattle.proof_archive.specs.declared.coin.Move.{Move}
-use Rattle.proof_archive.specs.declared.coin.Move.TheVariants.{Stays, Links as MovesTo, Breaks}
-use Rattle.proof_archive.specs.Scan.{newest_block}
+use Rattle.plasma_tx.specs.{declared.owner.Owner.{Owner}, declared.opening.RawOpening.{RawOpening}, declared.signed_tx.SignedTx.{SignedTx}, declared.links.Link.{Link}, declared.links.Links.{Links}, declared.call.RootCall.{RootCall}}
+use Rattle.plasma_tx.specs.{declared.views.CoinView.{CoinView}, Chain.{Chain}, Links.{tip_of, last_owner_of}, Views.{coin_at}, Shown.{Tests, Rules, tests_by, rules_of, spends, signs}}
+use Rattle.coin_history.specs.{History.{blocks_of, committed_blocks, opens_block, is_absent, transfer_of}, Checking.{is_asked}, Inside.{links_with, NoneIsAsked}}
+use Rattle.proof_archive.specs.{declared.coin.LinkEnd.{LinkEnd}, declared.coin.Move.{Move}, declared.coin.Move.TheVariants.{Stays, Links as MovesTo, Breaks}, Scan.{newest_block}}
 
 -- ---- the links and the broken block, opening by opening
 

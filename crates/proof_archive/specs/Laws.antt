@@ -1,13 +1,7 @@
 -- What holds of an archive, after every list of calls that it follows and openings that it is given.
 use Rattle.std.specs.Prelude.{◌≡◌, ℕ, ◌==◌, if◌then◌else◌, List, [], ◌∷◌, ◌++◌, Some, Ok}
-use Rattle.plasma_tx.specs.declared.opening.RawOpening.{RawOpening}
-use Rattle.plasma_tx.specs.declared.call.RootCall.{RootCall}
-use Rattle.plasma_tx.specs.declared.views.CoinView.{CoinView}
-use Rattle.plasma_tx.specs.Chain.{Chain, with_log}
-use Rattle.plasma_tx.specs.Views.{coin_at}
-use Rattle.plasma_tx.specs.Shown.{tests_by, rules_of}
-use Rattle.coin_history.specs.declared.bundle.Bundle.{Bundle}
-use Rattle.coin_history.specs.Checking.{history_of}
+use Rattle.plasma_tx.specs.{declared.opening.RawOpening.{RawOpening}, declared.call.RootCall.{RootCall}, declared.views.CoinView.{CoinView}, Chain.{Chain, with_log}, Views.{coin_at}, Shown.{tests_by, rules_of}}
+use Rattle.coin_history.specs.{declared.bundle.Bundle.{Bundle}, Checking.{history_of}}
 use Rattle.proof_archive.specs.Archives.{put_answer, after_put, scan_in, tip_answer, openings_up_to, links_up_to, bundle_answer}
 
 -- A bundle of a coin up to a tip is a history by the chain's log and by each that extends it, with the links up to

@@ -1,16 +1,8 @@
 -- What openings that were kept of a coin show, found anew from all of them.
 use Rattle.std.specs.Prelude.{ℕ, ◌&&◌, not, Bool, nat_lt, List, [], ◌∷◌, reverse, find, Option, Result, Ok, Err}
 use Rattle.std.specs.Option.{option_map}
-use Rattle.plasma_tx.specs.declared.opening.RawOpening.{RawOpening}
-use Rattle.plasma_tx.specs.declared.links.Links.{Links}
-use Rattle.plasma_tx.specs.declared.call.RootCall.{RootCall}
-use Rattle.plasma_tx.specs.declared.views.CoinView.{CoinView}
-use Rattle.plasma_tx.specs.Links.{tip_of}
-use Rattle.plasma_tx.specs.Shown.{Tests, Rules}
-use Rattle.coin_history.specs.declared.bundle.Bundle.{Bundle}
-use Rattle.coin_history.specs.declared.refusal.HistoryRefusal.{HistoryRefusal}
-use Rattle.coin_history.specs.History.{is_absent, links_of}
-use Rattle.coin_history.specs.Checking.{history_of}
+use Rattle.plasma_tx.specs.{declared.opening.RawOpening.{RawOpening}, declared.links.Links.{Links}, declared.call.RootCall.{RootCall}, declared.views.CoinView.{CoinView}, Links.{tip_of}, Shown.{Tests, Rules}}
+use Rattle.coin_history.specs.{declared.bundle.Bundle.{Bundle}, declared.refusal.HistoryRefusal.{HistoryRefusal}, History.{is_absent, links_of}, Checking.{history_of}}
 
 -- the block of the newest of these openings, which come first; without one it is the deposit block
 abbrev pub newest_block : ℕ → List RawOpening → ℕ

@@ -2,28 +2,13 @@
 use Rattle.std.specs.Prelude.{◌≡◌, ◌⊎◌, ℕ, ◌^◌, ◌<◌, ◌≤◌, ◌==◌, ◌&&◌, not, Bool, true, false, nat_lt, if◌then◌else◌, List, [], ◌∷◌, ◌++◌, Option, Some, None, Result, Ok, Err}
 use Rattle.std.specs.List.{All, Contains}
 use Rattle.std.specs.Str.{bytes_eq}
-use Rattle.lms_sign.specs.Types.{is_supported}
-use Rattle.lms_sign.specs.Valid.{types_of, is_valid, IsValid}
-use Rattle.sparse_merkle.specs.declared.tree.Entry.{Entry}
-use Rattle.sparse_merkle.specs.TreeDigest.{leaf_of, root_of, path_to}
-use Rattle.sparse_merkle.specs.MaskedPath.{proof_path}
-use Rattle.sparse_merkle.specs.Opening.{hashed_strings, HasClash}
-use Rattle.plasma_tx.specs.declared.opening.RawOpening.{RawOpening}
-use Rattle.plasma_tx.specs.declared.opening.Opening.{Opening}
-use Rattle.plasma_tx.specs.declared.call.RootCall.{RootCall}
-use Rattle.plasma_tx.specs.Chain.{Chain}
-use Rattle.plasma_tx.specs.Openings.{opening_in}
-use Rattle.plasma_tx.specs.Views.{blocks}
-use Rattle.plasma_tx.specs.Shown.{Tests, tests_by, root_at}
-use Rattle.coin_history.specs.declared.bundle.Bundle.{Bundle}
-use Rattle.coin_history.specs.declared.refusal.HistoryRefusal.{HistoryRefusal}
-use Rattle.coin_history.specs.declared.refusal.HistoryRefusal.TheVariants.{BadBundle as BadBytes, UnknownBlock as Unknown, MissingBlock as Missing, BadOpening as Unopened, NotAbsent, NoCoin, NotLink, BadSignature}
-use Rattle.coin_history.specs.Bundles.{bundle_in}
-use Rattle.coin_history.specs.History.{blocks_of, committed_blocks, is_absent, leaf_of_opening, opens_block}
-use Rattle.coin_history.specs.Checking.{above, first_cause, is_asked, lowest_failure, missing, opening_at, opening_causes, unless_failed}
-use Rattle.receipt_audit.specs.declared.promise.Promise.{Promise}
-use Rattle.receipt_audit.specs.declared.audit.Conviction.{Conviction}
-use Rattle.receipt_audit.specs.declared.refusal.AuditRefusal.{AuditRefusal}
+use Rattle.lms_sign.specs.{Types.{is_supported}, Valid.{types_of, is_valid, IsValid}}
+use Rattle.sparse_merkle.specs.{declared.tree.Entry.{Entry}, TreeDigest.{leaf_of, root_of, path_to}, MaskedPath.{proof_path}, Opening.{hashed_strings, HasClash}}
+use Rattle.plasma_tx.specs.{declared.opening.RawOpening.{RawOpening}, declared.opening.Opening.{Opening}, declared.call.RootCall.{RootCall}, Chain.{Chain}, Openings.{opening_in}, Views.{blocks}, Shown.{Tests, tests_by, root_at}}
+use Rattle.coin_history.specs.{declared.bundle.Bundle.{Bundle}, declared.refusal.HistoryRefusal.{HistoryRefusal}}
+use Rattle.coin_history.specs.{declared.refusal.HistoryRefusal.TheVariants.{BadBundle as BadBytes, UnknownBlock as Unknown, MissingBlock as Missing, BadOpening as Unopened, NotAbsent, NoCoin, NotLink, BadSignature}, Bundles.{bundle_in}}
+use Rattle.coin_history.specs.{History.{blocks_of, committed_blocks, is_absent, leaf_of_opening, opens_block}, Checking.{above, first_cause, is_asked, lowest_failure, missing, opening_at, opening_causes, unless_failed}}
+use Rattle.receipt_audit.specs.{declared.promise.Promise.{Promise}, declared.audit.Conviction.{Conviction}, declared.refusal.AuditRefusal.{AuditRefusal}}
 use Rattle.receipt_audit.specs.declared.refusal.AuditRefusal.TheVariants.{BadReceipt, BadKey, NotSigned, NotYet, BadBundle, OtherCoin, UnknownBlock, MissingBlock, BadOpening, Honoured, NoMemory}
 use Rattle.receipt_audit.specs.Promises.{promise_in, promised_part, signature_part, Honours}
 

@@ -2,26 +2,14 @@
 use Rattle.std.specs.Prelude.{◌≡◌, ℕ, not, Bool, true, false, nat_le, List, [], ◌∷◌, ◌++◌, length, take, Option, Some, None, Result, Ok, Err}
 use Rattle.sha2.specs.Sha256.{sha256}
 use Rattle.crash_disk.specs.Disk.{History, FaultPlan}
-use Rattle.lms_sign.specs.declared.secret.Secret.{Secret}
-use Rattle.lms_sign.specs.Types.{leaf_count}
-use Rattle.lms_sign.specs.Tree.{signature_of}
-use Rattle.node_journal.specs.Effect.{first_cause}
-use Rattle.node_journal.specs.Notes.{NotesState, Did}
-use Rattle.node_journal.specs.declared.stop.Stop.{Stop}
-use Rattle.node_journal.specs.declared.stop.Stop.TheVariants.{Closed as StopClosed, NoMemory as StopNoMemory, DeviceFault as StopFault}
+use Rattle.lms_sign.specs.{declared.secret.Secret.{Secret}, Types.{leaf_count}, Tree.{signature_of}}
+use Rattle.node_journal.specs.{Effect.{first_cause}, Notes.{NotesState, Did}, declared.stop.Stop.{Stop}, declared.stop.Stop.TheVariants.{Closed as StopClosed, NoMemory as StopNoMemory, DeviceFault as StopFault}}
 use Rattle.leaf_journal.specs.Records.{binding_record, is_marked, messages_of}
-use Rattle.plasma_tx.specs.declared.call.RootCall.{RootCall}
-use Rattle.plasma_tx.specs.Spelling.{body_at_start}
-use Rattle.plasma_tx.specs.Views.{blocks}
-use Rattle.operator_rules.specs.declared.refusal.OfferRefusal.{OfferRefusal}
-use Rattle.operator_rules.specs.declared.refusal.OfferRefusal.TheVariants.{Closed as OfferClosed, DeviceFault as OfferFault, NoMemory as OfferNoMemory}
-use Rattle.operator_rules.specs.Records.{who_is}
+use Rattle.plasma_tx.specs.{declared.call.RootCall.{RootCall}, Spelling.{body_at_start}, Views.{blocks}}
+use Rattle.operator_rules.specs.{declared.refusal.OfferRefusal.{OfferRefusal}, declared.refusal.OfferRefusal.TheVariants.{Closed as OfferClosed, DeviceFault as OfferFault, NoMemory as OfferNoMemory}, Records.{who_is}}
 use Rattle.operator_rules.specs.Commands.{offer_effect}
-use Rattle.receipt_audit.specs.declared.promise.Promise.{Promise}
-use Rattle.receipt_audit.specs.declared.issuing.Receipt.{Receipt}
-use Rattle.receipt_audit.specs.declared.refusal.IssueRefusal.{IssueRefusal}
-use Rattle.receipt_audit.specs.declared.refusal.IssueRefusal.TheVariants.{BadDue, OldJournal, KeySpent, Offer, DeviceFault, Closed, NoMemory}
-use Rattle.receipt_audit.specs.Promises.{promise_text}
+use Rattle.receipt_audit.specs.{declared.promise.Promise.{Promise}, declared.issuing.Receipt.{Receipt}, declared.refusal.IssueRefusal.{IssueRefusal}}
+use Rattle.receipt_audit.specs.{declared.refusal.IssueRefusal.TheVariants.{BadDue, OldJournal, KeySpent, Offer, DeviceFault, Closed, NoMemory}, Promises.{promise_text}}
 
 -- a desk's key: types 5 and 4, and the first 16 bytes of the seed's SHA-256 as its identifier
 abbrev pub desk_secret : List ℕ → Secret

@@ -1,28 +1,14 @@
 -- What holds of the audit of a receipt, and of the receipts that an issue gives.
 use Rattle.std.specs.Prelude.{◌≡◌, ◌≢◌, ℕ, ◌^◌, ◌<◌, ◌≤◌, true, nat_lt, if◌then◌else◌, List, [], ◌∷◌, ◌++◌, length, Some, Ok, Err}
 use Rattle.std.specs.List.{All}
-use Rattle.lms_sign.specs.declared.secret.Secret.{Secret}
-use Rattle.lms_sign.specs.Types.{is_supported}
-use Rattle.lms_sign.specs.Tree.{public_key_of, signature_of}
-use Rattle.lms_sign.specs.Valid.{IsValid}
+use Rattle.lms_sign.specs.{declared.secret.Secret.{Secret}, Types.{is_supported}, Tree.{public_key_of, signature_of}, Valid.{IsValid}}
 use Rattle.leaf_journal.specs.Records.{messages_of}
-use Rattle.sparse_merkle.specs.declared.tree.Entry.{Entry}
-use Rattle.sparse_merkle.specs.TreeDigest.{leaf_of, root_of}
-use Rattle.plasma_tx.specs.declared.call.RootCall.{RootCall}
-use Rattle.plasma_tx.specs.Chain.{Chain}
-use Rattle.plasma_tx.specs.Spelling.{AreBytes, body_at_start}
-use Rattle.plasma_tx.specs.Shown.{Tests, root_at}
-use Rattle.plasma_tx.specs.Views.{blocks}
-use Rattle.coin_history.specs.declared.bundle.Bundle.{Bundle}
-use Rattle.coin_history.specs.Bundles.{AreRising, bundle_in}
+use Rattle.sparse_merkle.specs.{declared.tree.Entry.{Entry}, TreeDigest.{leaf_of, root_of}}
+use Rattle.plasma_tx.specs.{declared.call.RootCall.{RootCall}, Chain.{Chain}, Spelling.{AreBytes, body_at_start}, Shown.{Tests, root_at}, Views.{blocks}}
+use Rattle.coin_history.specs.{declared.bundle.Bundle.{Bundle}, Bundles.{AreRising, bundle_in}}
 use Rattle.operator_rules.specs.Records.{who_is}
-use Rattle.receipt_audit.specs.declared.promise.Promise.{Promise}
-use Rattle.receipt_audit.specs.declared.issuing.Receipt.{Receipt}
-use Rattle.receipt_audit.specs.declared.audit.Conviction.{Conviction}
-use Rattle.receipt_audit.specs.declared.refusal.AuditRefusal.TheVariants.{NotYet, NoMemory}
-use Rattle.receipt_audit.specs.Promises.{promise_in, promise_text, promised_part, signature_part, IsPromise}
-use Rattle.receipt_audit.specs.Audit.{breach_of, conviction_answer, shown_by, ClashesAt, IsBroken, ShowsBreach}
-use Rattle.receipt_audit.specs.Desk.{issue_effect, promise_for}
+use Rattle.receipt_audit.specs.{declared.promise.Promise.{Promise}, declared.issuing.Receipt.{Receipt}, declared.audit.Conviction.{Conviction}, declared.refusal.AuditRefusal.TheVariants.{NotYet, NoMemory}}
+use Rattle.receipt_audit.specs.{Promises.{promise_in, promise_text, promised_part, signature_part, IsPromise}, Audit.{breach_of, conviction_answer, shown_by, ClashesAt, IsBroken, ShowsBreach}, Desk.{issue_effect, promise_for}}
 
 -- the test of a bundle of the promise's coin, whose blocks rise, passes exactly what goes to the due block and shows a
 -- breach

@@ -1,8 +1,7 @@
 -- Promises and receipts: an operator promises that a transfer will be in a block by a certain one, and signs that.
 use Rattle.std.specs.Prelude.{◌≡◌, ◌≢◌, ℕ, ◌^◌, ◌<◌, ◌==◌, ◌&&◌, nat_le, Bool, if◌then◌else◌, List, [], ◌++◌, length, take, drop, slice_range, codes, Option, Some, None}
 use Rattle.std.specs.Str.{bytes_eq}
-use Rattle.sparse_merkle.specs.declared.tree.Entry.{Entry}
-use Rattle.sparse_merkle.specs.TreeDigest.{leaf_of}
+use Rattle.sparse_merkle.specs.{declared.tree.Entry.{Entry}, TreeDigest.{leaf_of}}
 use Rattle.plasma_tx.specs.Spelling.{number_text, number_at, AreBytes}
 use Rattle.receipt_audit.specs.declared.promise.Promise.{Promise}
 

@@ -2,21 +2,13 @@
 -- with lines that an audit or an archive answers, and messages that a signer signs.
 use Rattle.std.specs.Prelude.{◌≡◌, ℕ, true, false, List, [], ◌++◌, length, Option, Some, None}
 use Rattle.crash_disk.specs.Disk.{History}
-use Rattle.run_words.specs.declared.form.Form.{Form}
-use Rattle.run_words.specs.declared.form.Form.TheVariants.{Replay, Brief, Wallet, Operator, Watcher, InitWallet, InitOperator, InitWatcher, Make, Verify, HssInit, HssSign, HssVerify, Audit, Archive}
-use Rattle.streamed_lines.specs.declared.ending.Ending.TheVariants.{Complete, ReadFault}
-use Rattle.streamed_lines.specs.Lines.{lines_in}
-use Rattle.run_endings.specs.declared.status.Status.{Status}
-use Rattle.run_endings.specs.Statuses.{IsDoneUnlessFailed}
+use Rattle.run_words.specs.{declared.form.Form.{Form}, declared.form.Form.TheVariants.{Replay, Brief, Wallet, Operator, Watcher, InitWallet, InitOperator, InitWatcher, Make, Verify, HssInit, HssSign, HssVerify, Audit, Archive}}
+use Rattle.streamed_lines.specs.{declared.ending.Ending.TheVariants.{Complete, ReadFault}, Lines.{lines_in}}
+use Rattle.run_endings.specs.{declared.status.Status.{Status}, Statuses.{IsDoneUnlessFailed}}
 use Rattle.node_runs.specs.Complete.{WatcherComplete, OperatorComplete, WalletComplete, InitComplete, InitBothComplete}
 use Rattle.hss_runs.specs.Complete.{SigningComplete}
-use Rattle.log_runs.specs.Auditing.{auditing}
-use Rattle.log_runs.specs.Archiving.{archiving}
-use Rattle.log_runs.specs.Complete.{LogComplete}
-use Rattle.replay_run.specs.Replays.{replay_of}
-use Rattle.replay_run.specs.Output.{replay_output, brief_output}
-use Rattle.replay_run.specs.Endings.{KeepTheRules}
-use Rattle.replay_run.specs.Headline.{run_text, run_brief}
+use Rattle.log_runs.specs.{Auditing.{auditing}, Archiving.{archiving}, Complete.{LogComplete}}
+use Rattle.replay_run.specs.{Replays.{replay_of}, Output.{replay_output, brief_output}, Endings.{KeepTheRules}, Headline.{run_text, run_brief}}
 
 -- ---- the text of a replay
 

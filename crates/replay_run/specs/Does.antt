@@ -1,29 +1,14 @@
 -- What a run does, by what its words ask for.
 use Rattle.std.specs.Prelude.{◌≡◌, ◌⊎◌, ℕ, Bool, List, Option, Some, None}
 use Rattle.crash_disk.specs.Disk.{History, FaultPlan}
-use Rattle.node_rules.specs.Watcher.{identity_text as watcher_text}
-use Rattle.node_rules.specs.WalletRecords.{identity_text as wallet_text}
+use Rattle.node_rules.specs.{Watcher.{identity_text as watcher_text}, WalletRecords.{identity_text as wallet_text}}
 use Rattle.operator_rules.specs.Records.{identity_text as operator_text}
-use Rattle.run_words.specs.declared.form.Form.{Form}
-use Rattle.run_words.specs.declared.form.Form.TheVariants.{Replay, Brief, Wallet, Operator, Watcher, InitWallet, InitOperator, InitWatcher, Make, Verify, HssInit, HssSign, HssVerify, Audit, Archive}
-use Rattle.run_endings.specs.declared.status.Status.{Status}
-use Rattle.run_endings.specs.declared.status.Status.TheVariants.{NoMemory}
-use Rattle.run_endings.specs.Outputs.{Output, EndsAs}
-use Rattle.node_runs.specs.Sessions.{Outside}
-use Rattle.node_runs.specs.Runs.{RunsWatcher, RunsWallet}
-use Rattle.node_runs.specs.Operators.{RunsOperator}
-use Rattle.node_runs.specs.Inits.{InitsNotes, InitsPair}
-use Rattle.hss_runs.specs.Identity.{identity_text as signer_text}
-use Rattle.hss_runs.specs.Runs.{RunsSigner}
-use Rattle.hss_runs.specs.Verdict.{is_hss_verified, verdict_output}
-use Rattle.log_runs.specs.Following.{Following}
-use Rattle.log_runs.specs.Auditing.{auditing}
-use Rattle.log_runs.specs.Archiving.{archiving}
-use Rattle.log_runs.specs.Runs.{RunsLog}
-use Rattle.replay_run.specs.Forms.{is_verified}
-use Rattle.replay_run.specs.Output.{usage_output, replay_output, brief_output, make_output, verify_output}
-use Rattle.replay_run.specs.Bounds.{FewBy}
-use Rattle.replay_run.specs.Runs.{RanOver}
+use Rattle.run_words.specs.{declared.form.Form.{Form}, declared.form.Form.TheVariants.{Replay, Brief, Wallet, Operator, Watcher, InitWallet, InitOperator, InitWatcher, Make, Verify, HssInit, HssSign, HssVerify, Audit, Archive}}
+use Rattle.run_endings.specs.{declared.status.Status.{Status}, declared.status.Status.TheVariants.{NoMemory}, Outputs.{Output, EndsAs}}
+use Rattle.node_runs.specs.{Sessions.{Outside}, Runs.{RunsWatcher, RunsWallet}, Operators.{RunsOperator}, Inits.{InitsNotes, InitsPair}}
+use Rattle.hss_runs.specs.{Identity.{identity_text as signer_text}, Runs.{RunsSigner}, Verdict.{is_hss_verified, verdict_output}}
+use Rattle.log_runs.specs.{Following.{Following}, Auditing.{auditing}, Archiving.{archiving}, Runs.{RunsLog}}
+use Rattle.replay_run.specs.{Forms.{is_verified}, Output.{usage_output, replay_output, brief_output, make_output, verify_output}, Bounds.{FewBy}, Runs.{RanOver}}
 
 -- Over disks that tell their history, foretell their faults and count them, and under a digest: a run that was handed
 -- these disks of notes and of leaves and hands them back so, that did this outside, and has this status; `failed` says

@@ -1,14 +1,10 @@
 -- Why a replay ends, by its lines: the limits, the grammar, and whether the lines so far have a run with one more.
 use Rattle.std.specs.Prelude.{◌≡◌, ℕ, zero, suc, ◌+◌, ◌||◌, ◌⊎◌, Bool, true, false, if◌then◌else◌, List, [], ◌∷◌, length, Some, None}
-use Rattle.schedule_text.specs.declared.line.Line.{Line}
-use Rattle.schedule_text.specs.Grammar.{line_in}
+use Rattle.schedule_text.specs.{declared.line.Line.{Line}, Grammar.{line_in}}
 use Rattle.world_rules.specs.Steps.{Run, run_of}
 use Rattle.world_core.specs.Lines.{is_full, WouldFill}
-use Rattle.streamed_lines.specs.declared.ending.Ending.{Ending}
-use Rattle.streamed_lines.specs.declared.ending.Ending.TheVariants.{Complete, BadLine, ReadFault, TooLong, Ended}
-use Rattle.streamed_lines.specs.Lines.{lines_in, is_whole, text_of, is_too_long}
-use Rattle.replay_run.specs.declared.ending.NoCause.{NoCause}
-use Rattle.replay_run.specs.Replays.{replay_of}
+use Rattle.streamed_lines.specs.{declared.ending.Ending.{Ending}, declared.ending.Ending.TheVariants.{Complete, BadLine, ReadFault, TooLong, Ended}, Lines.{lines_in, is_whole, text_of, is_too_long}}
+use Rattle.replay_run.specs.{declared.ending.NoCause.{NoCause}, Replays.{replay_of}}
 
 -- line n, which begins after so many bytes, may be answered: it passes no limit, and its line feed was seen, or the
 -- end of the input

@@ -3,24 +3,12 @@
 use Rattle.std.specs.Prelude.{◌≡◌, ◌≢◌, ◌⊎◌, ℕ, true, false, List, slice_get, Some}
 use Rattle.std.specs.List.{Contains}
 use Rattle.line_forms.specs.declared.tokens.HexOrItem.{HexOrItem}
-use Rattle.plasma_tx.specs.declared.call.RootCall.{RootCall}
-use Rattle.plasma_tx.specs.declared.views.CoinView.{CoinView}
-use Rattle.plasma_tx.specs.Views.{coin_at}
-use Rattle.plasma_tx.specs.Shown.{tests_by, rules_of}
-use Rattle.plasma_tx.specs.Table.{answer_to, is_accepted}
-use Rattle.schedule_text.specs.declared.line.Line.{Line}
-use Rattle.schedule_text.specs.declared.command.Command.{Command}
-use Rattle.schedule_text.specs.declared.command.WalletCommand.{WalletCommand}
-use Rattle.operator_rules.specs.Commands.{forest_in}
-use Rattle.operator_rules.specs.Walk.{place_at}
-use Rattle.world_rules.specs.Events.{coin_of_call, offers_of}
-use Rattle.world_rules.specs.World.{Node, World, is_wallet_role, number_of, owner_of_node, bytes_of}
+use Rattle.plasma_tx.specs.{declared.call.RootCall.{RootCall}, declared.views.CoinView.{CoinView}, Views.{coin_at}, Shown.{tests_by, rules_of}, Table.{answer_to, is_accepted}}
+use Rattle.schedule_text.specs.{declared.line.Line.{Line}, declared.command.Command.{Command}, declared.command.WalletCommand.{WalletCommand}}
+use Rattle.operator_rules.specs.{Commands.{forest_in}, Walk.{place_at}}
+use Rattle.world_rules.specs.{Events.{coin_of_call, offers_of}, World.{Node, World, is_wallet_role, number_of, owner_of_node, bytes_of}, Steps.{LineEffect, Run, step, events_of}, Exhibits.{collides, is_forged}, Safety.{holds}}
 use Rattle.node_replies.specs.Orders.{exit_block}
-use Rattle.world_rules.specs.Steps.{LineEffect, Run, step, events_of}
-use Rattle.world_rules.specs.Exhibits.{collides, is_forged}
-use Rattle.world_rules.specs.Safety.{holds}
-use Rattle.world_laws.specs.Headline.{AreDeclaredBefore, lacks_bond, IsFreshWatch, starter, IsTaken}
-use Rattle.world_laws.specs.Bundles.{IsHonestSoFar, WasBundled, IsTakenBundle}
+use Rattle.world_laws.specs.{Headline.{AreDeclaredBefore, lacks_bond, IsFreshWatch, starter, IsTaken}, Bundles.{IsHonestSoFar, WasBundled, IsTakenBundle}}
 
 -- So it is at the end of a run of these lines, the newest first, with this world. A beginning of a schedule is a
 -- schedule, so it is at each line of it.

@@ -1,8 +1,7 @@
 -- What the forms of a run need: the test of `verify`, and which of a run's objects a form uses.
 use Rattle.std.specs.Prelude.{ℕ, ◌==◌, ◌&&◌, Bool, true, false, List, length, Option, Some, None}
 use Rattle.lms_sign.specs.Valid.{is_valid}
-use Rattle.run_words.specs.declared.form.Form.{Form}
-use Rattle.run_words.specs.declared.form.Form.TheVariants.{Replay, Brief, Wallet, Operator, Watcher, InitWallet, InitOperator, InitWatcher, Make, Verify, HssInit, HssSign, HssVerify, Audit, Archive}
+use Rattle.run_words.specs.{declared.form.Form.{Form}, declared.form.Form.TheVariants.{Replay, Brief, Wallet, Operator, Watcher, InitWallet, InitOperator, InitWatcher, Make, Verify, HssInit, HssSign, HssVerify, Audit, Archive}}
 
 -- the key has 56 bytes and reads, and the signature of the message is valid under it (RFC 8554)
 unfoldable pub is_verified : List ℕ → List ℕ → List ℕ → Bool

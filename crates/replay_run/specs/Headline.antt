@@ -3,33 +3,14 @@ use Rattle.std.specs.Prelude.{◌≡◌, ◌≢◌, ◌⊎◌, ℕ, Bool, true, 
 use Rattle.std.specs.Option.{ForSome}
 use Rattle.std.specs.List.{Contains}
 use Rattle.plasma_tx.specs.Shown.{tests_by, rules_of}
-use Rattle.world_rules.specs.declared.verdict.Verdict.{Verdict}
-use Rattle.world_rules.specs.declared.verdict.VerdictKind.{VerdictKind}
-use Rattle.world_rules.specs.declared.verdict.Exhibit.{Exhibit}
-use Rattle.world_rules.specs.World.{World}
-use Rattle.world_rules.specs.Events.{Event}
-use Rattle.world_rules.specs.Steps.{Run, run_of, events_of}
-use Rattle.world_rules.specs.Exhibits.{collides, is_forged}
-use Rattle.world_rules.specs.Safety.{is_attended, is_safe}
-use Rattle.world_rules.specs.Verdicts.{SignsOneMessage, verdicts_of, exhibit_of_run}
-use Rattle.world_rules.specs.Texts.{entries_text, exhibit_text}
-use Rattle.world_rules.specs.Laws.{IsDigest}
-use Rattle.streamed_lines.specs.declared.ending.Ending.{Ending}
-use Rattle.streamed_lines.specs.Lines.{lines_in}
-use Rattle.streamed_lines.specs.Outside.{Gave}
-use Rattle.run_words.specs.declared.form.Form.{Form}
-use Rattle.run_words.specs.declared.form.Form.TheVariants.{Replay, Brief}
-use Rattle.run_endings.specs.declared.status.Status.{Status}
-use Rattle.run_endings.specs.Outputs.{Output, EndsAs}
+use Rattle.world_rules.specs.{declared.verdict.Verdict.{Verdict}, declared.verdict.VerdictKind.{VerdictKind}, declared.verdict.Exhibit.{Exhibit}, World.{World}, Events.{Event}, Steps.{Run, run_of, events_of}, Exhibits.{collides, is_forged}}
+use Rattle.world_rules.specs.{Safety.{is_attended, is_safe}, Verdicts.{SignsOneMessage, verdicts_of, exhibit_of_run}, Texts.{entries_text, exhibit_text}, Laws.{IsDigest}}
+use Rattle.streamed_lines.specs.{declared.ending.Ending.{Ending}, Lines.{lines_in}, Outside.{Gave}}
+use Rattle.run_words.specs.{declared.form.Form.{Form}, declared.form.Form.TheVariants.{Replay, Brief}}
+use Rattle.run_endings.specs.{declared.status.Status.{Status}, Outputs.{Output, EndsAs}}
 use Rattle.node_runs.specs.Sessions.{Outside}
 use Rattle.world_laws.specs.Looked.{is_looked_after}
-use Rattle.replay_run.specs.declared.ending.NoCause.{NoCause}
-use Rattle.replay_run.specs.Text.{closing_text, brief_text, last_text}
-use Rattle.replay_run.specs.Output.{status_of}
-use Rattle.replay_run.specs.Laws.{lines_spelled}
-use Rattle.replay_run.specs.Endings.{EndsBy}
-use Rattle.replay_run.specs.Ends.{HoldsAtTheEnd}
-use Rattle.replay_run.specs.Replays.{replay_of}
+use Rattle.replay_run.specs.{declared.ending.NoCause.{NoCause}, Text.{closing_text, brief_text, last_text}, Output.{status_of}, Laws.{lines_spelled}, Endings.{EndsBy}, Ends.{HoldsAtTheEnd}, Replays.{replay_of}}
 
 -- Coins are kept at each line of these events, the newest first: where each tick before it that met a deadline of coin
 -- c, while wallet w held it at e, was attended, the trace up to the line shows two byte strings with one digest at the

@@ -1,8 +1,7 @@
 -- What holds of the lines of an input, and of the answers of a replay, in words of their own.
 use Rattle.std.specs.Prelude.{◌≡◌, ◌≢◌, ◌⊎◌, ℕ, Bool, List, [], ◌∷◌, length, take, reverse, Some}
 use Rattle.std.specs.List.{concat, filter_map}
-use Rattle.schedule_text.specs.declared.line.Line.{Line}
-use Rattle.schedule_text.specs.Grammar.{line_in}
+use Rattle.schedule_text.specs.{declared.line.Line.{Line}, Grammar.{line_in}}
 use Rattle.world_rules.specs.Steps.{run_of}
 use Rattle.streamed_lines.specs.Lines.{lines_in, text_of, HasNoFeed, EndsWithItsFeed}
 use Rattle.replay_run.specs.Replays.{replay_of}

@@ -1,16 +1,11 @@
 -- What a run writes and how it ends that uses no disk, as a function of its words and of the bytes that were read.
 use Rattle.std.specs.Prelude.{ℕ, Bool, if◌then◌else◌, List, [], ◌∷◌, ◌++◌, codes, Result, Ok, Err}
-use Rattle.run_endings.specs.declared.status.Status.{Status}
-use Rattle.run_endings.specs.declared.status.Status.TheVariants.{Done, Usage, BadLine as BadLineStatus, ReadFault as ReadFaultStatus, TooLong as TooLongStatus}
-use Rattle.run_endings.specs.Statuses.{status_of_refusal}
+use Rattle.run_endings.specs.{declared.status.Status.{Status}, declared.status.Status.TheVariants.{Done, Usage, BadLine as BadLineStatus, ReadFault as ReadFaultStatus, TooLong as TooLongStatus}, Statuses.{status_of_refusal}}
 use Rattle.run_endings.specs.Outputs.{Output}
 use Rattle.plasma_outside.specs.declared.sink.SinkRefusal.{SinkRefusal}
-use Rattle.streamed_lines.specs.declared.ending.Ending.{Ending}
-use Rattle.streamed_lines.specs.declared.ending.Ending.TheVariants.{Complete, BadLine, ReadFault, TooLong, Ended}
+use Rattle.streamed_lines.specs.{declared.ending.Ending.{Ending}, declared.ending.Ending.TheVariants.{Complete, BadLine, ReadFault, TooLong, Ended}}
 use Rattle.world_maker.specs.Generator.{made_text}
-use Rattle.replay_run.specs.declared.ending.NoCause.{NoCause}
-use Rattle.replay_run.specs.Replays.{replay_of}
-use Rattle.replay_run.specs.Text.{answers_text, closing_text, brief_text, last_text}
+use Rattle.replay_run.specs.{declared.ending.NoCause.{NoCause}, Replays.{replay_of}, Text.{answers_text, closing_text, brief_text, last_text}}
 
 -- words that are no form: the line that names the forms
 abbrev pub usage_output : Output

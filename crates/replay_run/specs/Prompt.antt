@@ -1,16 +1,11 @@
 -- That a run answers the lines of its input before it reads more of them.
 use Rattle.std.specs.Prelude.{ℕ, Bool, false, List, [], Option, Some}
 use Rattle.crash_disk.specs.Disk.{History, FaultPlan}
-use Rattle.run_words.specs.declared.form.Form.{Form}
-use Rattle.run_words.specs.declared.form.Form.TheVariants.{Replay, Brief, Wallet, Operator, Watcher, Audit, Archive}
-use Rattle.node_runs.specs.Sessions.{Outside}
-use Rattle.node_runs.specs.Prompt.{RunsPromptly, WatcherPromptly, OperatorPromptly, WalletPromptly}
-use Rattle.log_runs.specs.Following.{Following, log_rules, begun}
-use Rattle.log_runs.specs.Auditing.{auditing}
-use Rattle.log_runs.specs.Archiving.{archiving}
+use Rattle.run_words.specs.{declared.form.Form.{Form}, declared.form.Form.TheVariants.{Replay, Brief, Wallet, Operator, Watcher, Audit, Archive}}
+use Rattle.node_runs.specs.{Sessions.{Outside}, Prompt.{RunsPromptly, WatcherPromptly, OperatorPromptly, WalletPromptly}}
+use Rattle.log_runs.specs.{Following.{Following, log_rules, begun}, Auditing.{auditing}, Archiving.{archiving}}
 use Rattle.streamed_lines.specs.Prompt.{answers_so_far}
-use Rattle.replay_run.specs.Replays.{replay_of}
-use Rattle.replay_run.specs.Text.{answers_text}
+use Rattle.replay_run.specs.{Replays.{replay_of}, Text.{answers_text}}
 
 -- under a digest, a replay's answers to the whole lines of these bytes, which may go on
 abbrev pub replay_answers : (List ℕ → List ℕ) → List ℕ → List ℕ

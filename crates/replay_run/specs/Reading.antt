@@ -1,20 +1,11 @@
 -- The world that lines leave, and what was read of an input.
 use Rattle.std.specs.Prelude.{◌≡◌, ℕ, Bool, List, ◌++◌, Option, Some, None}
-use Rattle.schedule_text.specs.declared.line.Line.{Line}
-use Rattle.schedule_text.specs.Grammar.{line_in}
-use Rattle.world_rules.specs.Steps.{Run, run_of}
-use Rattle.world_rules.specs.Texts.{entries_text}
+use Rattle.schedule_text.specs.{declared.line.Line.{Line}, Grammar.{line_in}}
+use Rattle.world_rules.specs.{Steps.{Run, run_of}, Texts.{entries_text}}
 use Rattle.world_core.specs.Worlds.{RunningState, IsAfter}
-use Rattle.streamed_lines.specs.declared.ending.Ending.{Ending}
-use Rattle.streamed_lines.specs.declared.ending.Ending.TheVariants.{Complete}
-use Rattle.streamed_lines.specs.declared.ending.Stop.TheVariants.{BadLine}
-use Rattle.streamed_lines.specs.declared.ending.Halt.{Halt}
-use Rattle.streamed_lines.specs.declared.ending.Halt.TheVariants.{Stops, Failed, NoMemory}
-use Rattle.streamed_lines.specs.Bounds.{TakesFew}
-use Rattle.streamed_lines.specs.Outside.{Gave, Wrote, WroteFront}
-use Rattle.replay_run.specs.declared.ending.NoCause.{NoCause}
-use Rattle.replay_run.specs.Replays.{JudgedRun, replay_of}
-use Rattle.replay_run.specs.Text.{answers_text}
+use Rattle.streamed_lines.specs.{declared.ending.Ending.{Ending}, declared.ending.Ending.TheVariants.{Complete}, declared.ending.Stop.TheVariants.{BadLine}, declared.ending.Halt.{Halt}}
+use Rattle.streamed_lines.specs.{declared.ending.Halt.TheVariants.{Stops, Failed, NoMemory}, Bounds.{TakesFew}, Outside.{Gave, Wrote, WroteFront}}
+use Rattle.replay_run.specs.{declared.ending.NoCause.{NoCause}, Replays.{JudgedRun, replay_of}, Text.{answers_text}}
 
 -- ---- one line
 

@@ -1,13 +1,9 @@
 -- A replay: the lines of an input are run, up to what ends it.
 use Rattle.std.specs.Prelude.{ℕ, ◌+◌, Bool, true, if◌then◌else◌, List, [], ◌∷◌, length, Option, Some, None, Result, Ok, Err, option_and_then}
 use Rattle.schedule_text.specs.Grammar.{line_in}
-use Rattle.world_rules.specs.Steps.{TraceEntry, Run, no_lines, step_run}
-use Rattle.world_rules.specs.Texts.{trace_line_text}
+use Rattle.world_rules.specs.{Steps.{TraceEntry, Run, no_lines, step_run}, Texts.{trace_line_text}}
 use Rattle.world_core.specs.Lines.{is_full}
-use Rattle.streamed_lines.specs.declared.ending.Ending.{Ending}
-use Rattle.streamed_lines.specs.declared.ending.Stop.{Stop}
-use Rattle.streamed_lines.specs.declared.ending.Stop.TheVariants.{BadLine, TooLong}
-use Rattle.streamed_lines.specs.Streams.{Rules, Streamed, stream_of}
+use Rattle.streamed_lines.specs.{declared.ending.Ending.{Ending}, declared.ending.Stop.{Stop}, declared.ending.Stop.TheVariants.{BadLine, TooLong}, Streams.{Rules, Streamed, stream_of}}
 use Rattle.replay_run.specs.declared.ending.NoCause.{NoCause}
 
 -- what lines come to: their run, and the digest that judges it, which no line changes

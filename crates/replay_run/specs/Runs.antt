@@ -1,8 +1,7 @@
 -- What a run does to its source and its sink that reads a schedule.
 use Rattle.std.specs.Prelude.{ℕ, Bool, List, Option}
 use Rattle.streamed_lines.specs.Outside.{Gave}
-use Rattle.run_endings.specs.declared.status.Status.{Status}
-use Rattle.run_endings.specs.Outputs.{Output, EndsAs}
+use Rattle.run_endings.specs.{declared.status.Status.{Status}, Outputs.{Output, EndsAs}}
 
 -- A run took some bytes of the source, and not more than it needed; what it wrote and its status are the output over
 -- these bytes.

@@ -2,13 +2,9 @@
 use Rattle.std.specs.Prelude.{ℕ, List, [], ◌∷◌, ◌++◌, codes}
 use Rattle.std.specs.List.{flat_map}
 use Rattle.node_replies.specs.Causes.{phrase}
-use Rattle.world_rules.specs.Steps.{Run}
-use Rattle.world_rules.specs.Verdicts.{verdicts_of, counts_of, exhibit_of_run}
-use Rattle.world_rules.specs.Texts.{entries_text, verdict_text, exhibit_text, counts_text}
-use Rattle.streamed_lines.specs.declared.ending.Ending.{Ending}
-use Rattle.streamed_lines.specs.declared.ending.Ending.TheVariants.{Complete, BadLine, ReadFault, TooLong, Ended}
-use Rattle.replay_run.specs.declared.ending.NoCause.{NoCause}
-use Rattle.replay_run.specs.Replays.{Replay}
+use Rattle.world_rules.specs.{Steps.{Run}, Verdicts.{verdicts_of, counts_of, exhibit_of_run}, Texts.{entries_text, verdict_text, exhibit_text, counts_text}}
+use Rattle.streamed_lines.specs.{declared.ending.Ending.{Ending}, declared.ending.Ending.TheVariants.{Complete, BadLine, ReadFault, TooLong, Ended}}
+use Rattle.replay_run.specs.{declared.ending.NoCause.{NoCause}, Replays.{Replay}}
 
 -- the answers of the lines that were run
 abbrev pub answers_text : Replay → List ℕ

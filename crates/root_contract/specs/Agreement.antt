@@ -1,16 +1,9 @@
 -- The game and the ledger of a contract are what its log says.
 use Rattle.std.specs.Prelude.{◌≡◌, ℕ, map}
-use Rattle.exit_game.specs.declared.game.Game.{Game}
-use Rattle.exit_game.specs.Games.{slots_in}
-use Rattle.bond_ledger.specs.declared.ledger.Ledger.{Ledger}
-use Rattle.bond_ledger.specs.Ledger.{balance_in, held_in, funded_in}
-use Rattle.plasma_tx.specs.Chain.{Chain}
-use Rattle.plasma_tx.specs.Views.{exits}
-use Rattle.plasma_tx.specs.Shown.{rules_of}
-use Rattle.plasma_tx.specs.Money.{balance_of, held_of, funded}
-use Rattle.plasma_tx.specs.Table.{IsLegal}
-use Rattle.root_contract.specs.Exits.{as_exit, exits_of_coin}
-use Rattle.root_contract.specs.declared.contract.Contract.TheInside.{Inside}
+use Rattle.exit_game.specs.{declared.game.Game.{Game}, Games.{slots_in}}
+use Rattle.bond_ledger.specs.{declared.ledger.Ledger.{Ledger}, Ledger.{balance_in, held_in, funded_in}}
+use Rattle.plasma_tx.specs.{Chain.{Chain}, Views.{exits}, Shown.{rules_of}, Money.{balance_of, held_of, funded}, Table.{IsLegal}}
+use Rattle.root_contract.specs.{Exits.{as_exit, exits_of_coin}, declared.contract.Contract.TheInside.{Inside}}
 
 -- each call of the log was accepted; the game has the standing exits of each coin, the ledger each account's balance,
 -- what is held of it, and all that was funded

@@ -1,14 +1,7 @@
 -- What an accepted call changes beside the log.
 use Rattle.std.specs.Prelude.{◌≡◌, ℕ, true, List, ◌∷◌}
-use Rattle.bond_ledger.specs.declared.ledger.Ledger.{Ledger}
-use Rattle.bond_ledger.specs.Ledger.{balance_in, held_in, funded_in}
-use Rattle.plasma_tx.specs.declared.call.RootCall.{RootCall}
-use Rattle.plasma_tx.specs.Chain.{Chain}
-use Rattle.plasma_tx.specs.Views.{Exit, exits}
-use Rattle.plasma_tx.specs.declared.movement.Movement.{Movement}
-use Rattle.plasma_tx.specs.Shown.{Tests, rules_of}
-use Rattle.plasma_tx.specs.Money.{pays, takes, releases, funded}
-use Rattle.plasma_tx.specs.Table.{answer_to, is_accepted}
+use Rattle.bond_ledger.specs.{declared.ledger.Ledger.{Ledger}, Ledger.{balance_in, held_in, funded_in}}
+use Rattle.plasma_tx.specs.{declared.call.RootCall.{RootCall}, Chain.{Chain}, Views.{Exit, exits}, declared.movement.Movement.{Movement}, Shown.{Tests, rules_of}, Money.{pays, takes, releases, funded}, Table.{answer_to, is_accepted}}
 
 -- the call is accepted under some tests
 abbrev pub IsAccepted : Chain → RootCall → Type 0

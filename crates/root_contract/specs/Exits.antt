@@ -1,10 +1,8 @@
 -- The slots of a game as the exits that the views have.
 use Rattle.std.specs.Prelude.{◌≡◌, ℕ, ◌≤◌, ◌==◌, false, List, Option, Some, None, map, filter}
 use Rattle.std.specs.List.{AllByRecursion}
-use Rattle.plasma_tx.specs.declared.rules.TheConstants.{LAST_TIME}
-use Rattle.exit_game.specs.declared.challenges.Challenge.{Challenge as Kept}
-use Rattle.exit_game.specs.declared.slot.Slot.{Slot}
-use Rattle.plasma_tx.specs.Views.{Challenge, Exit, challenge_at}
+use Rattle.plasma_tx.specs.{declared.rules.TheConstants.{LAST_TIME}, Views.{Challenge, Exit, challenge_at}}
+use Rattle.exit_game.specs.{declared.challenges.Challenge.{Challenge as Kept}, declared.slot.Slot.{Slot}}
 
 -- a challenge of a slot as the views have it
 abbrev pub as_challenge : Kept → Challenge

@@ -1,17 +1,9 @@
 -- What judging a call finds, and what a call does to a contract.
 use Rattle.std.specs.Prelude.{◌≡◌, ℕ, ◌||◌, not, Bool, true, false, List, [], ◌∷◌, Option, Some, Result, Ok, Err}
-use Rattle.plasma_tx.specs.declared.owner.Owner.{Owner}
-use Rattle.plasma_tx.specs.declared.signed_tx.SignedTx.{SignedTx}
-use Rattle.plasma_tx.specs.declared.call.RootCall.{RootCall}
-use Rattle.plasma_tx.specs.declared.call.RootCall.TheVariants.{StartSpend, After, Between, Before, Respond}
-use Rattle.plasma_tx.specs.declared.answer.Answer.{Answer}
-use Rattle.plasma_tx.specs.declared.answer.Answer.TheVariants.{Refused as IsRefused, NoMemory as WantsMemory}
-use Rattle.plasma_tx.specs.Chain.{Chain, with_log}
-use Rattle.plasma_tx.specs.declared.answer.Refusal.TheVariants.{NotChild, BadSignature}
-use Rattle.plasma_tx.specs.Shown.{Tests, rules_of, spends, signs}
-use Rattle.plasma_tx.specs.Table.{Cause, shows_none, answer_to, is_accepted}
-use Rattle.root_contract.specs.declared.stop.Stop.{Stop}
-use Rattle.root_contract.specs.declared.stop.Stop.TheVariants.{Refused, NoMemory}
+use Rattle.plasma_tx.specs.{declared.owner.Owner.{Owner}, declared.signed_tx.SignedTx.{SignedTx}, declared.call.RootCall.{RootCall}, declared.call.RootCall.TheVariants.{StartSpend, After, Between, Before, Respond}}
+use Rattle.plasma_tx.specs.{declared.answer.Answer.{Answer}, declared.answer.Answer.TheVariants.{Refused as IsRefused, NoMemory as WantsMemory}, Chain.{Chain, with_log}, declared.answer.Refusal.TheVariants.{NotChild, BadSignature}}
+use Rattle.plasma_tx.specs.{Shown.{Tests, rules_of, spends, signs}, Table.{Cause, shows_none, answer_to, is_accepted}}
+use Rattle.root_contract.specs.{declared.stop.Stop.{Stop}, declared.stop.Stop.TheVariants.{Refused, NoMemory}}
 
 -- a call is to be answered so: by its effect, or by the refusal; nothing is said where memory ran out
 abbrev pub Judges : {A : Type 0} → Answer → (A → Answer) → Result A Stop → Type 0

@@ -2,11 +2,7 @@
 use Rattle.std.specs.Prelude.{ℕ, not, Bool, true, false, List, [], ◌∷◌, ◌++◌, Option, Some, None, find, filter, map, option_to_list}
 use Rattle.std.specs.Option.{option_map, option_map_or}
 use Rattle.exit_game.specs.declared.challenges.Challenge.{Challenge as Kept}
-use Rattle.plasma_tx.specs.declared.views.CoinView.{CoinView}
-use Rattle.plasma_tx.specs.Views.{Challenge, Exit}
-use Rattle.plasma_tx.specs.declared.rules.TheConstants.{EXIT_BOND}
-use Rattle.plasma_tx.specs.declared.movement.Movement.{Movement}
-use Rattle.plasma_tx.specs.Money.{moved, open_challenges, challenge_bonds, exit_bonds}
+use Rattle.plasma_tx.specs.{declared.views.CoinView.{CoinView}, Views.{Challenge, Exit}, declared.rules.TheConstants.{EXIT_BOND}, declared.movement.Movement.{Movement}, Money.{moved, open_challenges, challenge_bonds, exit_bonds}}
 use Rattle.root_contract.specs.Exits.{as_challenge}
 
 -- the bonds of the challenges that are open, each at the account that made it

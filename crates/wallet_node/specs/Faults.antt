@@ -2,12 +2,9 @@
 use Rattle.std.specs.Prelude.{◌≡◌, ◌⊎◌, ℕ, true, List, Option, Some, Err}
 use Rattle.plasma_base.specs.Causes.{faults_after}
 use Rattle.crash_disk.specs.Disk.{History, FaultPlan}
-use Rattle.gate_journal.specs.declared.refusal.JournalRefusal.{JournalRefusal}
-use Rattle.gate_journal.specs.declared.refusal.InitRefusal.{InitRefusal}
-use Rattle.node_journal.specs.declared.stop.Stop.{Stop}
-use Rattle.node_journal.specs.Begin.{BeginsPair}
-use Rattle.wallet_node.specs.State.{WalletState, DidNote, DidLeaf}
-use Rattle.wallet_node.specs.Opening.{RefusesWallet}
+use Rattle.gate_journal.specs.{declared.refusal.JournalRefusal.{JournalRefusal}, declared.refusal.InitRefusal.{InitRefusal}}
+use Rattle.node_journal.specs.{declared.stop.Stop.{Stop}, Begin.{BeginsPair}}
+use Rattle.wallet_node.specs.{State.{WalletState, DidNote, DidLeaf}, Opening.{RefusesWallet}}
 
 -- over disks that count their faults
 module _ {D : Type 0} (faults : D → ℕ) where

@@ -5,42 +5,17 @@ use Rattle.std.specs.Ordering.{nat_cmp}
 use Rattle.std.specs.BTreeSet.{insert_key}
 use Rattle.std.specs.Str.{bytes_eq}
 use Rattle.sha2.specs.Sha256.{sha256}
-use Rattle.lms_sign.specs.declared.secret.Secret.{Secret}
-use Rattle.lms_sign.specs.declared.types.LmsTypes.{LmsTypes}
-use Rattle.lms_sign.specs.Tree.{public_key_of}
-use Rattle.plasma_tx.specs.declared.body.Body.{Body}
-use Rattle.plasma_tx.specs.declared.call.RootCall.{RootCall}
-use Rattle.plasma_tx.specs.declared.owner.Owner.{Owner}
-use Rattle.plasma_tx.specs.declared.links.Link.{Link}
-use Rattle.plasma_tx.specs.Transfer.{nobody}
-use Rattle.plasma_tx.specs.declared.links.Links.{Links}
-use Rattle.plasma_tx.specs.Spelling.{body_at_start}
-use Rattle.coin_history.specs.History.{links_in}
-use Rattle.coin_history.specs.declared.refusal.HistoryRefusal.{HistoryRefusal}
-use Rattle.coin_history.specs.declared.refusal.HistoryRefusal.TheVariants.{NoMemory as HistoryMemory}
-use Rattle.leaf_journal.specs.Records.{MessagesPass}
-use Rattle.leaf_journal.specs.Leaves.{leaves_of}
-use Rattle.lms_sign.specs.Types.{leaf_count}
-use Rattle.leaf_journal.specs.declared.refusal.BindRefusal.{BindRefusal}
-use Rattle.leaf_journal.specs.declared.refusal.BindRefusal.TheVariants.{KeySpent as Spent, DeviceFault as BindFault, Closed as BindClosed}
-use Rattle.leaf_journal.specs.declared.refusal.MigrateRefusal.{MigrateRefusal}
-use Rattle.leaf_journal.specs.declared.refusal.MigrateRefusal.TheVariants.{AlreadyNew as IsNew, DeviceFault as MigrateFault, Closed as MigrateClosed}
-use Rattle.wallet_core.specs.declared.notes.LeafRecord.{LeafRecord}
-use Rattle.wallet_core.specs.declared.notes.Notes.{Notes}
-use Rattle.wallet_core.specs.declared.coin_state.CoinState.{CoinState}
-use Rattle.wallet_core.specs.declared.coin_state.CoinState.TheVariants.{Held, Leaving}
-use Rattle.node_rules.specs.declared.kept_coin.KeptCoin.{KeptCoin}
-use Rattle.node_rules.specs.KeptCoins.{kept_coin_of}
-use Rattle.node_rules.specs.declared.identity.WalletIdentity.{WalletIdentity}
-use Rattle.node_rules.specs.declared.refusal.WalletRefusal.{WalletRefusal}
+use Rattle.lms_sign.specs.{declared.secret.Secret.{Secret}, declared.types.LmsTypes.{LmsTypes}, Tree.{public_key_of}, Types.{leaf_count}}
+use Rattle.plasma_tx.specs.{declared.body.Body.{Body}, declared.call.RootCall.{RootCall}, declared.owner.Owner.{Owner}, declared.links.Link.{Link}, Transfer.{nobody}, declared.links.Links.{Links}, Spelling.{body_at_start}}
+use Rattle.coin_history.specs.{History.{links_in}, declared.refusal.HistoryRefusal.{HistoryRefusal}, declared.refusal.HistoryRefusal.TheVariants.{NoMemory as HistoryMemory}}
+use Rattle.leaf_journal.specs.{Records.{MessagesPass}, Leaves.{leaves_of}, declared.refusal.BindRefusal.{BindRefusal}, declared.refusal.BindRefusal.TheVariants.{KeySpent as Spent, DeviceFault as BindFault, Closed as BindClosed}}
+use Rattle.leaf_journal.specs.{declared.refusal.MigrateRefusal.{MigrateRefusal}, declared.refusal.MigrateRefusal.TheVariants.{AlreadyNew as IsNew, DeviceFault as MigrateFault, Closed as MigrateClosed}}
+use Rattle.wallet_core.specs.{declared.notes.LeafRecord.{LeafRecord}, declared.notes.Notes.{Notes}, declared.coin_state.CoinState.{CoinState}, declared.coin_state.CoinState.TheVariants.{Held, Leaving}}
+use Rattle.node_rules.specs.{declared.kept_coin.KeptCoin.{KeptCoin}, KeptCoins.{kept_coin_of}, declared.identity.WalletIdentity.{WalletIdentity}, declared.refusal.WalletRefusal.{WalletRefusal}}
 use Rattle.node_rules.specs.declared.refusal.WalletRefusal.TheVariants.{History, NoMemory, KeySpent, DeviceFault, Closed, AlreadyNew}
-use Rattle.node_rules.specs.WalletRecords.{Note, Accepts, LeavesWith, Reclaims, secret_of, owner_of, coin_tip, notes_of, accepted_of, state_notes, leaves_in, is_body, may_reclaim, who_is}
-use Rattle.node_rules.specs.Kept.{chain_of}
-use Rattle.node_rules.specs.Wallet.{WalletRecords, kept_at, coin_state, due_in}
-use Rattle.node_rules.specs.WalletOpening.{are_bound}
-use Rattle.wallet_node.specs.declared.memory.Undo.{Undo}
-use Rattle.wallet_node.specs.declared.memory.Undo.TheVariants.{Coin, Leaving as LeavesAgain, Reclaimed}
-use Rattle.wallet_node.specs.declared.change.Change.{Change}
+use Rattle.node_rules.specs.{WalletRecords.{Note, Accepts, LeavesWith, Reclaims, secret_of, owner_of, coin_tip, notes_of, accepted_of, state_notes, leaves_in, is_body, may_reclaim, who_is}, Kept.{chain_of}}
+use Rattle.node_rules.specs.{Wallet.{WalletRecords, kept_at, coin_state, due_in}, WalletOpening.{are_bound}}
+use Rattle.wallet_node.specs.{declared.memory.Undo.{Undo}, declared.memory.Undo.TheVariants.{Coin, Leaving as LeavesAgain, Reclaimed}, declared.change.Change.{Change}}
 use Rattle.wallet_node.specs.declared.change.Change.TheVariants.{Accepts as TakesUp, LeavesWith as Leaves, Reclaims as TakesBack}
 
 -- a note as it is read

@@ -1,8 +1,7 @@
 -- What befalls a wallet's leaves over every list of inits, openings, commands, faults and crashes of its two disks.
 use Rattle.std.specs.Prelude.{◌≡◌, ℕ, List, [], ◌∷◌, ◌++◌, Some}
 use Rattle.std.specs.List.{flat_map}
-use Rattle.crash_disk.specs.Disk.{History}
-use Rattle.crash_disk.specs.Calls.{Course}
+use Rattle.crash_disk.specs.{Disk.{History}, Calls.{Course}}
 use Rattle.gate_journal.specs.Life.{Event, makes, opens, appends, crashes}
 use Rattle.leaf_journal.specs.Laws.{MayCome, life_after, message_at}
 

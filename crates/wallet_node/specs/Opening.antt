@@ -1,14 +1,11 @@
 -- What an opening of a wallet does.
 use Rattle.std.specs.Prelude.{◌≡◌, ◌⊎◌, ℕ, true, false, List, Option}
 use Rattle.crash_disk.specs.Disk.{History, FaultPlan}
-use Rattle.gate_journal.specs.declared.refusal.JournalRefusal.{JournalRefusal}
-use Rattle.gate_journal.specs.declared.refusal.JournalRefusal.TheVariants.{NotJournal, NoMemory}
-use Rattle.node_journal.specs.Notes.{NotesState, Opened, RefusesRole}
-use Rattle.node_journal.specs.Role.{role_in}
+use Rattle.gate_journal.specs.{declared.refusal.JournalRefusal.{JournalRefusal}, declared.refusal.JournalRefusal.TheVariants.{NotJournal, NoMemory}}
+use Rattle.node_journal.specs.{Notes.{NotesState, Opened, RefusesRole}, Role.{role_in}}
 use Rattle.leaf_journal.specs.Records.{leaf_records_in_of}
 use Rattle.wallet_core.specs.declared.notes.LeafRecord.{LeafRecord}
-use Rattle.node_rules.specs.WalletRecords.{wallet_kinds, is_body, leaves_in, notes_of, are_bound_notes}
-use Rattle.node_rules.specs.WalletOpening.{leaves_of, are_bound, unbound_place}
+use Rattle.node_rules.specs.{WalletRecords.{wallet_kinds, is_body, leaves_in, notes_of, are_bound_notes}, WalletOpening.{leaves_of, are_bound, unbound_place}}
 use Rattle.wallet_node.specs.State.{WalletState, notes_part, leaves_part}
 
 -- why notes aren't taken for those of a wallet with these leaves: one takes a leaf back that may not be, with the place

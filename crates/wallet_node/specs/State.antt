@@ -1,12 +1,8 @@
 -- What callers see of a wallet, what stops its commands, and what they do to its two disks.
 use Rattle.std.specs.Prelude.{◌≡◌, ℕ, Bool, List, Option, Some, None, Result, Ok, Err}
 use Rattle.crash_disk.specs.Disk.{History, FaultPlan}
-use Rattle.node_journal.specs.Notes.{NotesState, Did}
-use Rattle.node_journal.specs.declared.stop.Stop.{Stop}
-use Rattle.node_journal.specs.declared.stop.Stop.TheVariants.{Closed, NoMemory, DeviceFault}
-use Rattle.node_rules.specs.declared.refusal.WalletRefusal.{WalletRefusal}
-use Rattle.node_rules.specs.declared.refusal.WalletRefusal.TheVariants.{Closed as RefusedClosed, NoMemory as RefusedMemory, DeviceFault as RefusedFault}
-use Rattle.node_rules.specs.Wallet.{WalletRecords}
+use Rattle.node_journal.specs.{Notes.{NotesState, Did}, declared.stop.Stop.{Stop}, declared.stop.Stop.TheVariants.{Closed, NoMemory, DeviceFault}}
+use Rattle.node_rules.specs.{declared.refusal.WalletRefusal.{WalletRefusal}, declared.refusal.WalletRefusal.TheVariants.{Closed as RefusedClosed, NoMemory as RefusedMemory, DeviceFault as RefusedFault}, Wallet.{WalletRecords}}
 
 -- a wallet: the disks of its notes and of its leaves, whether a device fault closed it, its records, and the digest
 -- that it was opened with

@@ -4,20 +4,9 @@
 use Rattle.std.specs.Prelude.{ℕ, ◌==◌, ◌&&◌, not, if◌then◌else◌, nat_lt, List, [], ◌∷◌, Option, Some, None, unwrap_or}
 use Rattle.std.specs.List.{flat_map}
 use Rattle.std.specs.Option.{option_map, option_map_or, option_or}
-use Rattle.plasma_tx.specs.declared.links.Link.{Link}
-use Rattle.plasma_tx.specs.declared.links.Links.{Links}
-use Rattle.plasma_tx.specs.declared.call.Shown.{Shown}
-use Rattle.plasma_tx.specs.declared.call.Shown.TheVariants.{Deposit as AtDeposit, Spend}
-use Rattle.plasma_tx.specs.declared.call.RootCall.{RootCall}
-use Rattle.plasma_tx.specs.declared.call.RootCall.TheVariants.{After, Between, Before, Respond}
-use Rattle.plasma_tx.specs.declared.views.ChallengeView.{ChallengeView}
-use Rattle.plasma_tx.specs.declared.views.ExitView.{ExitView}
-use Rattle.plasma_tx.specs.ChallengeLists.{is_challenged}
-use Rattle.plasma_tx.specs.Links.{last_spend, tip_of}
-use Rattle.plasma_tx.specs.Transfer.{nobody}
-use Rattle.plasma_tx.specs.Views.{exits_of}
-use Rattle.plasma_tx.specs.declared.rules.TheConstants.{CHALLENGE_WINDOW, RESPONSE_WINDOW}
-use Rattle.plasma_tx.specs.Table.{is_over}
+use Rattle.plasma_tx.specs.{declared.links.Link.{Link}, declared.links.Links.{Links}, declared.call.Shown.{Shown}, declared.call.Shown.TheVariants.{Deposit as AtDeposit, Spend}, declared.call.RootCall.{RootCall}}
+use Rattle.plasma_tx.specs.{declared.call.RootCall.TheVariants.{After, Between, Before, Respond}, declared.views.ChallengeView.{ChallengeView}, declared.views.ExitView.{ExitView}, ChallengeLists.{is_challenged}, Links.{last_spend, tip_of}}
+use Rattle.plasma_tx.specs.{Transfer.{nobody}, Views.{exits_of}, declared.rules.TheConstants.{CHALLENGE_WINDOW, RESPONSE_WINDOW}, Table.{is_over}}
 use Rattle.watch_duty.specs.declared.guard.Guard.{Guard}
 
 -- ---- a guard's links

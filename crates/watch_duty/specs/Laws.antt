@@ -2,26 +2,12 @@
 use Rattle.std.specs.Prelude.{◌≡◌, ℕ, ◌≤◌, ◌==◌, ◌&&◌, not, Bool, true, false, if◌then◌else◌, nat_lt, List, [], ◌∷◌, ◌++◌, filter, map, length, slice_get, Option, Some, is_some}
 use Rattle.std.specs.List.{Contains, flat_map, position}
 use Rattle.std.specs.Option.{option_and_then, option_map_or}
-use Rattle.plasma_tx.specs.declared.opening.RawOpening.{RawOpening}
-use Rattle.plasma_tx.specs.declared.links.Link.{Link}
-use Rattle.plasma_tx.specs.declared.links.Links.{Links}
-use Rattle.plasma_tx.specs.declared.call.Shown.{Shown}
-use Rattle.plasma_tx.specs.declared.call.Shown.TheVariants.{Deposit as AtDeposit, Spend}
-use Rattle.plasma_tx.specs.declared.call.RootCall.{RootCall}
-use Rattle.plasma_tx.specs.declared.call.RootCall.TheVariants.{StartSpend, After, Between, Before, Respond}
-use Rattle.plasma_tx.specs.declared.views.ChallengeView.{ChallengeView}
-use Rattle.plasma_tx.specs.declared.views.ExitView.{ExitView}
-use Rattle.plasma_tx.specs.ChallengeLists.{is_challenged}
-use Rattle.plasma_tx.specs.Links.{tip_of}
-use Rattle.plasma_tx.specs.Views.{exits_of}
-use Rattle.plasma_tx.specs.declared.rules.TheConstants.{CHALLENGE_BOND, CHALLENGE_WINDOW, RESPONSE_WINDOW}
-use Rattle.plasma_tx.specs.Shown.{Tests, Rules, root_at}
-use Rattle.plasma_tx.specs.Table.{answer_to, is_accepted}
+use Rattle.plasma_tx.specs.{declared.opening.RawOpening.{RawOpening}, declared.links.Link.{Link}, declared.links.Links.{Links}, declared.call.Shown.{Shown}, declared.call.Shown.TheVariants.{Deposit as AtDeposit, Spend}}
+use Rattle.plasma_tx.specs.{declared.call.RootCall.{RootCall}, declared.call.RootCall.TheVariants.{StartSpend, After, Between, Before, Respond}, declared.views.ChallengeView.{ChallengeView}, declared.views.ExitView.{ExitView}}
+use Rattle.plasma_tx.specs.{ChallengeLists.{is_challenged}, Links.{tip_of}, Views.{exits_of}, declared.rules.TheConstants.{CHALLENGE_BOND, CHALLENGE_WINDOW, RESPONSE_WINDOW}, Shown.{Tests, Rules, root_at}, Table.{answer_to, is_accepted}}
 use Rattle.plasma_tx.specs.Money.{balance_of}
-use Rattle.coin_history.specs.declared.bundle.Bundle.{Bundle}
-use Rattle.coin_history.specs.History.{leaf_of_opening, IsHistory}
-use Rattle.watch_duty.specs.declared.guard.Guard.{Guard}
-use Rattle.watch_duty.specs.Duty.{link_after, tip_shown, within, due_for, due_of, due_calls}
+use Rattle.coin_history.specs.{declared.bundle.Bundle.{Bundle}, History.{leaf_of_opening, IsHistory}}
+use Rattle.watch_duty.specs.{declared.guard.Guard.{Guard}, Duty.{link_after, tip_shown, within, due_for, due_of, due_calls}}
 
 -- each call of the log was accepted after those before it, under these tests
 unfoldable pub IsLegalBy : Tests → Rules → List RootCall → Type 0

@@ -1,10 +1,7 @@
 -- A coin that is watched: what the rules of the calls that are due read of it.
 use Rattle.std.specs.Prelude.{◌≡◌, Bool, List, [], ◌++◌, Option, is_some, unwrap_or}
-use Rattle.plasma_tx.specs.declared.links.Links.{Links}
-use Rattle.plasma_tx.specs.declared.call.RootCall.{RootCall}
-use Rattle.watch_duty.specs.declared.guard.Guard.{Guard}
-use Rattle.watch_duty.specs.declared.watch.Watch.{Watch}
-use Rattle.watch_duty.specs.Duty.{guard_of}
+use Rattle.plasma_tx.specs.{declared.links.Links.{Links}, declared.call.RootCall.{RootCall}}
+use Rattle.watch_duty.specs.{declared.guard.Guard.{Guard}, declared.watch.Watch.{Watch}, Duty.{guard_of}}
 
 -- the log's calls
 abbrev pub log_of : Watch → List RootCall

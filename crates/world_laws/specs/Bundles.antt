@@ -2,32 +2,13 @@
 use Rattle.std.specs.Prelude.{◌≡◌, ◌⊎◌, ◌≤◌, ℕ, ◌+◌, Bool, true, false, if◌then◌else◌, List, [], ◌∷◌, ◌++◌, slice_get, Some, Ok}
 use Rattle.std.specs.List.{list_any}
 use Rattle.line_forms.specs.declared.tokens.HexOrItem.{HexOrItem}
-use Rattle.sparse_merkle.specs.declared.tree.Entry.{Entry}
-use Rattle.sparse_merkle.specs.TreeDigest.{leaf_of}
-use Rattle.plasma_tx.specs.declared.signed_tx.SignedTx.{SignedTx}
-use Rattle.plasma_tx.specs.declared.call.RootCall.{RootCall}
-use Rattle.plasma_tx.specs.declared.views.CoinView.{CoinView}
-use Rattle.plasma_tx.specs.Spelling.{signed_in}
-use Rattle.plasma_tx.specs.Transfer.{may_stand_in}
-use Rattle.plasma_tx.specs.Views.{coin_at, is_withdrawn}
-use Rattle.schedule_text.specs.declared.line.Line.{Line}
-use Rattle.schedule_text.specs.declared.call_form.CallForm.{CallForm}
-use Rattle.schedule_text.specs.declared.command.Command.{Command}
-use Rattle.schedule_text.specs.declared.command.WalletCommand.{WalletCommand}
-use Rattle.schedule_text.specs.declared.command.OperatorCommand.{OperatorCommand}
-use Rattle.node_rules.specs.declared.refusal.WalletRefusal.{WalletRefusal}
-use Rattle.node_rules.specs.Kept.{standing_block}
-use Rattle.operator_rules.specs.Acts.{AreDistinct}
-use Rattle.operator_rules.specs.Commands.{forest_in}
-use Rattle.operator_rules.specs.Trees.{tree_at}
-use Rattle.operator_rules.specs.Walk.{place_at}
-use Rattle.node_replies.specs.declared.reply.Reply.{Reply}
-use Rattle.node_replies.specs.Causes.{wallet_cause}
-use Rattle.world_rules.specs.Events.{Event, Joins, is_command_of}
-use Rattle.world_rules.specs.World.{Node, World, is_wallet_role, number_of, owner_of_node, bytes_of}
-use Rattle.world_rules.specs.Steps.{LineEffect, TraceEntry, Run, step, events_of}
-use Rattle.world_rules.specs.Safety.{is_joined}
-use Rattle.world_rules.specs.Laws.{IsCommandIn}
+use Rattle.sparse_merkle.specs.{declared.tree.Entry.{Entry}, TreeDigest.{leaf_of}}
+use Rattle.plasma_tx.specs.{declared.signed_tx.SignedTx.{SignedTx}, declared.call.RootCall.{RootCall}, declared.views.CoinView.{CoinView}, Spelling.{signed_in}, Transfer.{may_stand_in}, Views.{coin_at, is_withdrawn}}
+use Rattle.schedule_text.specs.{declared.line.Line.{Line}, declared.call_form.CallForm.{CallForm}, declared.command.Command.{Command}, declared.command.WalletCommand.{WalletCommand}, declared.command.OperatorCommand.{OperatorCommand}}
+use Rattle.node_rules.specs.{declared.refusal.WalletRefusal.{WalletRefusal}, Kept.{standing_block}}
+use Rattle.operator_rules.specs.{Acts.{AreDistinct}, Commands.{forest_in}, Trees.{tree_at}, Walk.{place_at}}
+use Rattle.node_replies.specs.{declared.reply.Reply.{Reply}, Causes.{wallet_cause}}
+use Rattle.world_rules.specs.{Events.{Event, Joins, is_command_of}, World.{Node, World, is_wallet_role, number_of, owner_of_node, bytes_of}, Steps.{LineEffect, TraceEntry, Run, step, events_of}, Safety.{is_joined}, Laws.{IsCommandIn}}
 use Rattle.world_laws.specs.Headline.{IsRun}
 
 -- ---- an operator that keeps to the rules

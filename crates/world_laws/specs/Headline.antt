@@ -1,35 +1,16 @@
 -- What is promised of every schedule: of operator, strangers, losses and crashes.
 use Rattle.std.specs.Prelude.{◌≡◌, ◌≢◌, ◌⊎◌, ◌<◌, ℕ, ◌+◌, ◌||◌, Bool, true, false, nat_lt, List, ◌∷◌, ◌++◌, slice_get, Option, Some, None, is_some, is_none}
 use Rattle.std.specs.List.{All, Contains, list_any}
-use Rattle.plasma_tx.specs.declared.rules.TheConstants.{EXIT_BOND, CHALLENGE_BOND}
+use Rattle.plasma_tx.specs.{declared.rules.TheConstants.{EXIT_BOND, CHALLENGE_BOND}, declared.owner.Owner.{Owner}, declared.body.Body.{Body}, declared.call.RootCall.{RootCall}, declared.answer.Answer.{Answer}}
 use Rattle.lms_sign.specs.Tree.{signature_of}
-use Rattle.plasma_tx.specs.declared.owner.Owner.{Owner}
-use Rattle.plasma_tx.specs.declared.body.Body.{Body}
-use Rattle.plasma_tx.specs.declared.call.RootCall.{RootCall}
-use Rattle.plasma_tx.specs.declared.answer.Answer.{Answer}
-use Rattle.plasma_tx.specs.declared.answer.Refusal.{Refusal}
-use Rattle.plasma_tx.specs.Spelling.{body_text}
-use Rattle.plasma_tx.specs.Views.{coins, exit_at}
-use Rattle.plasma_tx.specs.Shown.{tests_by, rules_of}
-use Rattle.plasma_tx.specs.Table.{answer_to, is_accepted}
-use Rattle.plasma_tx.specs.Money.{balance_of}
-use Rattle.schedule_text.specs.declared.line.Line.{Line}
-use Rattle.schedule_text.specs.declared.command.Command.{Command}
-use Rattle.schedule_text.specs.declared.command.WalletCommand.{WalletCommand}
-use Rattle.schedule_text.specs.Grammar.{IsLine}
+use Rattle.plasma_tx.specs.{declared.answer.Refusal.{Refusal}, Spelling.{body_text}, Views.{coins, exit_at}, Shown.{tests_by, rules_of}, Table.{answer_to, is_accepted}, Money.{balance_of}}
+use Rattle.schedule_text.specs.{declared.line.Line.{Line}, declared.command.Command.{Command}, declared.command.WalletCommand.{WalletCommand}, Grammar.{IsLine}}
 use Rattle.node_rules.specs.WalletRecords.{secret_of, who_is}
-use Rattle.node_replies.specs.declared.reply.Reply.{Reply}
-use Rattle.world_rules.specs.declared.verdict.Verdict.{Verdict}
-use Rattle.world_rules.specs.declared.verdict.VerdictKind.{VerdictKind}
-use Rattle.world_rules.specs.declared.verdict.Exhibit.{Exhibit}
-use Rattle.world_rules.specs.Events.{Event, Joins, Watches, log_of, coin_of_call, wallet_owner, bound_by, leaf_at, is_command_of, offers_of}
-use Rattle.world_rules.specs.World.{Node, World, is_wallet_role, number_of, owner_of_node}
-use Rattle.node_replies.specs.Orders.{exit_block}
-use Rattle.world_rules.specs.Steps.{TraceEntry, Run, run_of, events_of}
-use Rattle.world_rules.specs.Exhibits.{collides, is_forged, exhibit_of}
-use Rattle.world_rules.specs.Safety.{holds, is_attended, is_safe, is_joined, is_harmed}
-use Rattle.world_rules.specs.Verdicts.{SignsOneMessage, given_out, verdicts_of, exhibit_of_run, first_unattended, takes_from}
-use Rattle.world_rules.specs.Laws.{IsDigest, IsCommandIn}
+use Rattle.node_replies.specs.{declared.reply.Reply.{Reply}, Orders.{exit_block}}
+use Rattle.world_rules.specs.{declared.verdict.Verdict.{Verdict}, declared.verdict.VerdictKind.{VerdictKind}, declared.verdict.Exhibit.{Exhibit}}
+use Rattle.world_rules.specs.{Events.{Event, Joins, Watches, log_of, coin_of_call, wallet_owner, bound_by, leaf_at, is_command_of, offers_of}, World.{Node, World, is_wallet_role, number_of, owner_of_node}}
+use Rattle.world_rules.specs.{Steps.{TraceEntry, Run, run_of, events_of}, Exhibits.{collides, is_forged, exhibit_of}, Safety.{holds, is_attended, is_safe, is_joined, is_harmed}}
+use Rattle.world_rules.specs.{Verdicts.{SignsOneMessage, given_out, verdicts_of, exhibit_of_run, first_unattended, takes_from}, Laws.{IsDigest, IsCommandIn}}
 
 -- A run of a schedule's lines, the newest first: the lines are in the grammar and keep the rules of declarations, and
 -- the digest gives 32 bytes. Nothing else is supposed of them: whatever the operator, strangers, losses and crashes do

@@ -2,18 +2,10 @@
 -- wallet comes to hold it.
 use Rattle.std.specs.Prelude.{◌≡◌, ◌≢◌, ℕ, ◌+◌, ◌<◌, ◌≤◌, true, false, List, ◌∷◌, ◌++◌, Some, is_none}
 use Rattle.std.specs.List.{AllByRecursion, Contains}
-use Rattle.plasma_tx.specs.declared.rules.TheConstants.{CHALLENGE_WINDOW, RESPONSE_WINDOW}
-use Rattle.plasma_tx.specs.declared.owner.Owner.{Owner}
-use Rattle.plasma_tx.specs.Views.{now, Exit, exits, challenge_at}
-use Rattle.plasma_tx.specs.Shown.{tests_by, rules_of}
+use Rattle.plasma_tx.specs.{declared.rules.TheConstants.{CHALLENGE_WINDOW, RESPONSE_WINDOW}, declared.owner.Owner.{Owner}, Views.{now, Exit, exits, challenge_at}, Shown.{tests_by, rules_of}}
 use Rattle.schedule_text.specs.declared.line.Line.{Line}
-use Rattle.world_rules.specs.Events.{Event, log_of, wallet_owner}
-use Rattle.world_rules.specs.World.{World}
-use Rattle.world_rules.specs.Steps.{Run, events_of}
-use Rattle.world_rules.specs.Exhibits.{collides, is_forged}
-use Rattle.world_rules.specs.Safety.{holds, is_mine, is_harmed}
-use Rattle.world_laws.specs.Headline.{IsRun}
-use Rattle.world_laws.specs.Looked.{goes_unseen, is_looked_after}
+use Rattle.world_rules.specs.{Events.{Event, log_of, wallet_owner}, World.{World}, Steps.{Run, events_of}, Exhibits.{collides, is_forged}, Safety.{holds, is_mine, is_harmed}}
+use Rattle.world_laws.specs.{Headline.{IsRun}, Looked.{goes_unseen, is_looked_after}}
 
 -- what holds of each standing exit of the coin while it is held at e
 pub record IsWatched (me : Owner) (e time : ℕ) (x : Exit) : Type 0 where

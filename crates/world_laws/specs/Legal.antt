@@ -2,19 +2,10 @@
 -- events are legal; the promises are proved over legal events.
 use Rattle.std.specs.Prelude.{◌≡◌, ◌≢◌, ℕ, ◌≤◌, ◌==◌, ◌&&◌, ◌||◌, Bool, true, false, if◌then◌else◌, List, [], ◌∷◌, Option, Some, None}
 use Rattle.std.specs.List.{Contains, list_any}
-use Rattle.plasma_tx.specs.declared.owner.Owner.{Owner}
-use Rattle.plasma_tx.specs.declared.body.Body.{Body}
-use Rattle.plasma_tx.specs.declared.links.Links.{Links}
-use Rattle.plasma_tx.specs.declared.call.RootCall.{RootCall}
-use Rattle.plasma_tx.specs.Links.{last_owner_of}
-use Rattle.plasma_tx.specs.Views.{blocks, coin_at, exits_of, is_withdrawn}
-use Rattle.plasma_tx.specs.Shown.{Tests, Rules}
-use Rattle.plasma_tx.specs.Table.{answer_to, is_accepted}
-use Rattle.coin_history.specs.declared.bundle.Bundle.{Bundle}
-use Rattle.coin_history.specs.History.{IsHistory, IsAbsent}
-use Rattle.node_rules.specs.Kept.{kept_links}
-use Rattle.node_rules.specs.Wallet.{start_of}
-use Rattle.node_rules.specs.Watcher.{due_for_kept}
+use Rattle.plasma_tx.specs.{declared.owner.Owner.{Owner}, declared.body.Body.{Body}, declared.links.Links.{Links}, declared.call.RootCall.{RootCall}, Links.{last_owner_of}, Views.{blocks, coin_at, exits_of, is_withdrawn}}
+use Rattle.plasma_tx.specs.{Shown.{Tests, Rules}, Table.{answer_to, is_accepted}}
+use Rattle.coin_history.specs.{declared.bundle.Bundle.{Bundle}, History.{IsHistory, IsAbsent}}
+use Rattle.node_rules.specs.{Kept.{kept_links}, Wallet.{start_of}, Watcher.{due_for_kept}}
 use Rattle.world_rules.specs.Events.{Event, Declares, Joins, Bounces, Accepts, Guards, Binds, TakesBack, Watches, Leaves, Seals, log_of, coin_of_call, wallet_owner, accepted, bound_by, leaf_at, signed_away_by, is_sent_from, is_bundle, guarded_by, is_command_of}
 use Rattle.node_replies.specs.Orders.{exit_block}
 use Rattle.world_rules.specs.Safety.{was_deposited, holds}

@@ -1,22 +1,11 @@
 -- What is promised of every list of legal events.
 use Rattle.std.specs.Prelude.{◌≡◌, ◌≢◌, ℕ, true, false, List, ◌∷◌, Some, ◌+◌, ◌==◌, Bool, if◌then◌else◌, [], is_some}
 use Rattle.std.specs.List.{Contains}
-use Rattle.plasma_tx.specs.declared.owner.Owner.{Owner}
-use Rattle.plasma_tx.specs.declared.call.RootCall.{RootCall}
-use Rattle.plasma_tx.specs.Shown.{Rules, tests_by}
-use Rattle.plasma_tx.specs.Table.{answer_to, is_accepted}
-use Rattle.world_rules.specs.declared.verdict.VerdictKind.{VerdictKind}
-use Rattle.world_rules.specs.declared.verdict.Exhibit.{Exhibit}
-use Rattle.plasma_tx.specs.Views.{coins}
-use Rattle.world_rules.specs.Events.{Event, log_of, coin_of_call, wallet_owner, offers_of, Joins, is_command_of, offered}
+use Rattle.plasma_tx.specs.{declared.owner.Owner.{Owner}, declared.call.RootCall.{RootCall}, Shown.{Rules, tests_by}, Table.{answer_to, is_accepted}, Views.{coins}}
+use Rattle.world_rules.specs.{declared.verdict.VerdictKind.{VerdictKind}, declared.verdict.Exhibit.{Exhibit}, Events.{Event, log_of, coin_of_call, wallet_owner, offers_of, Joins, is_command_of, offered}}
 use Rattle.node_replies.specs.Orders.{exit_block}
-use Rattle.world_rules.specs.Exhibits.{collides, is_forged, exhibit_of}
-use Rattle.world_rules.specs.Safety.{holds, is_safe, is_watch, is_joined}
-use Rattle.world_rules.specs.Verdicts.{verdict_at}
-use Rattle.world_rules.specs.Laws.{IsDigest}
-use Rattle.world_laws.specs.Headline.{lacks_bond, starter, IsTaken}
-use Rattle.world_laws.specs.Legal.{IsLegal}
-use Rattle.world_laws.specs.Looked.{is_looked_after}
+use Rattle.world_rules.specs.{Exhibits.{collides, is_forged, exhibit_of}, Safety.{holds, is_safe, is_watch, is_joined}, Verdicts.{verdict_at}, Laws.{IsDigest}}
+use Rattle.world_laws.specs.{Headline.{lacks_bond, starter, IsTaken}, Legal.{IsLegal}, Looked.{is_looked_after}}
 
 -- the wallet was declared before the deposit of the coin
 unfoldable pub was_declared_before : List Event → ℕ → ℕ → Bool

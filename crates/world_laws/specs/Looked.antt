@@ -5,24 +5,11 @@
 use Rattle.std.specs.Prelude.{◌≡◌, ◌≢◌, ◌⊎◌, ℕ, ◌+◌, ◌==◌, ◌&&◌, ◌||◌, not, Bool, true, false, if◌then◌else◌, nat_lt, List, [], ◌∷◌, ◌++◌}
 use Rattle.std.specs.List.{Contains, list_any, list_all}
 use Rattle.std.specs.Option.{option_map_or}
-use Rattle.plasma_tx.specs.declared.rules.TheConstants.{CHALLENGE_WINDOW, RESPONSE_WINDOW}
-use Rattle.plasma_tx.specs.declared.owner.Owner.{Owner}
-use Rattle.plasma_tx.specs.declared.call.RootCall.{RootCall}
-use Rattle.plasma_tx.specs.declared.call.RootCall.TheVariants.{Tick, After, Between, Before, Respond}
-use Rattle.plasma_tx.specs.Views.{now, block_of, Exit, exits}
-use Rattle.plasma_tx.specs.Laws.{is_start, is_end, is_respond}
-use Rattle.plasma_tx.specs.Shown.{tests_by, rules_of}
+use Rattle.plasma_tx.specs.{declared.rules.TheConstants.{CHALLENGE_WINDOW, RESPONSE_WINDOW}, declared.owner.Owner.{Owner}, declared.call.RootCall.{RootCall}, declared.call.RootCall.TheVariants.{Tick, After, Between, Before, Respond}}
+use Rattle.plasma_tx.specs.{Views.{now, block_of, Exit, exits}, Laws.{is_start, is_end, is_respond}, Shown.{tests_by, rules_of}}
 use Rattle.schedule_text.specs.declared.line.Line.{Line}
-use Rattle.world_rules.specs.declared.verdict.Verdict.{Verdict}
-use Rattle.world_rules.specs.declared.verdict.VerdictKind.{VerdictKind}
-use Rattle.world_rules.specs.declared.verdict.Exhibit.{Exhibit}
-use Rattle.world_rules.specs.Events.{Event, Joins, Watches, log_of, coin_of_call, wallet_owner, is_bundle, guarded_by}
-use Rattle.world_rules.specs.World.{World}
-use Rattle.world_rules.specs.Steps.{Run, events_of}
-use Rattle.world_rules.specs.Exhibits.{collides, is_forged}
-use Rattle.world_rules.specs.Laws.{IsOfHeld}
-use Rattle.world_rules.specs.Safety.{holds, is_met, meets_challenge, is_mine, is_attended, is_safe}
-use Rattle.world_rules.specs.Verdicts.{verdicts_of, exhibit_of_run}
+use Rattle.world_rules.specs.{declared.verdict.Verdict.{Verdict}, declared.verdict.VerdictKind.{VerdictKind}, declared.verdict.Exhibit.{Exhibit}, Events.{Event, Joins, Watches, log_of, coin_of_call, wallet_owner, is_bundle, guarded_by}}
+use Rattle.world_rules.specs.{World.{World}, Steps.{Run, events_of}, Exhibits.{collides, is_forged}, Laws.{IsOfHeld}, Safety.{holds, is_met, meets_challenge, is_mine, is_attended, is_safe}, Verdicts.{verdicts_of, exhibit_of_run}}
 use Rattle.world_laws.specs.Headline.{IsRun}
 
 -- ---- looks

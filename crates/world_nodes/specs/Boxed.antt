@@ -1,15 +1,8 @@
 -- What the parts of a node are, as they are held.
 use Rattle.std.specs.Prelude.{ℕ, List}
-use Rattle.world_nodes.specs.declared.boxed.Held.{Held}
-use Rattle.world_nodes.specs.declared.boxed.HeldMember.{HeldMember}
-use Rattle.world_nodes.specs.declared.down.DownNode.TheVariants.{Watcher as WatcherDown}
-use Rattle.world_nodes.specs.declared.up.UpNode.TheVariants.{Wallet as WalletUp, Watcher as WatcherUp, Operator as OperatorUp}
-use Rattle.world_nodes.specs.declared.entry.Site.{Site}
-use Rattle.world_nodes.specs.declared.entry.Site.TheVariants.{Up, Down, Gone}
-use Rattle.world_nodes.specs.declared.entry.Member.{Member}
-use Rattle.world_nodes.specs.declared.entry.Member.TheVariants.{Watcher as WatcherMember, Operator as OperatorMember}
-use Rattle.world_nodes.specs.Nodes.{role_of, AreOf}
-use Rattle.world_nodes.specs.Inside.{records_in, up_halves, up_hash, up_kind}
+use Rattle.world_nodes.specs.{declared.boxed.Held.{Held}, declared.boxed.HeldMember.{HeldMember}, declared.down.DownNode.TheVariants.{Watcher as WatcherDown}}
+use Rattle.world_nodes.specs.{declared.up.UpNode.TheVariants.{Wallet as WalletUp, Watcher as WatcherUp, Operator as OperatorUp}, declared.entry.Site.{Site}, declared.entry.Site.TheVariants.{Up, Down, Gone}, declared.entry.Member.{Member}}
+use Rattle.world_nodes.specs.{declared.entry.Member.TheVariants.{Watcher as WatcherMember, Operator as OperatorMember}, Nodes.{role_of, AreOf}, Inside.{records_in, up_halves, up_hash, up_kind}}
 
 -- the site that is held
 abbrev pub site_in : {H : Type 0} → Held H → Site H

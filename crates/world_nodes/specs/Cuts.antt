@@ -1,23 +1,12 @@
 -- What an order does of which so many device calls may pass before its node's disks crash.
 use Rattle.std.specs.Prelude.{◌≡◌, ℕ, Bool, true, false, ◌&&◌, ◌||◌, not, nat_lt, if◌then◌else◌, List, length, Option, Some, None, option_map}
 use Rattle.std.specs.Option.{option_or}
-use Rattle.crash_disk.specs.Disk.{History, content}
-use Rattle.crash_disk.specs.Calls.{with_made}
-use Rattle.crash_disk.specs.declared.outcome.Outcome.{Outcome}
-use Rattle.gate_journal.specs.Image.{spelled}
-use Rattle.gate_journal.specs.Steps.{append_steps, open_steps}
-use Rattle.gate_journal.specs.Laws.{is_added}
+use Rattle.crash_disk.specs.{Disk.{History, content}, Calls.{with_made}, declared.outcome.Outcome.{Outcome}}
+use Rattle.gate_journal.specs.{Image.{spelled}, Steps.{append_steps, open_steps}, Laws.{is_added}}
 use Rattle.plasma_tx.specs.declared.call.RootCall.{RootCall}
-use Rattle.world_rules.specs.World.{Node}
-use Rattle.world_rules.specs.Orders.{node_does}
-use Rattle.world_rules.specs.Steps.{after_crash}
-use Rattle.node_replies.specs.Given.{IsGiven}
-use Rattle.node_replies.specs.Orders.{Doing, adds_record}
-use Rattle.node_replies.specs.declared.order.NodeOrder.{NodeOrder}
-use Rattle.world_nodes.specs.declared.order.CutEnd.{CutEnd}
-use Rattle.world_nodes.specs.declared.order.CutEnd.TheVariants.{Down, Stopped, Done}
-use Rattle.world_nodes.specs.Orders.{is_opening_order}
-use Rattle.world_nodes.specs.Nodes.{NodeView, answers_down, with_records, with_opening, crashed_disk}
+use Rattle.world_rules.specs.{World.{Node}, Orders.{node_does}, Steps.{after_crash}}
+use Rattle.node_replies.specs.{Given.{IsGiven}, Orders.{Doing, adds_record}, declared.order.NodeOrder.{NodeOrder}}
+use Rattle.world_nodes.specs.{declared.order.CutEnd.{CutEnd}, declared.order.CutEnd.TheVariants.{Down, Stopped, Done}, Orders.{is_opening_order}, Nodes.{NodeView, answers_down, with_records, with_opening, crashed_disk}}
 
 -- The opening of a node that is down makes three calls on each disk, and an append four on its one. An order of which
 -- so many calls pass is stopped where it needs more.

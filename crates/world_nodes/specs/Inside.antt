@@ -1,50 +1,22 @@
 -- What a node of a world is made of, and what its parts do.
 use Rattle.std.specs.Prelude.{◌≡◌, ◌⊎◌, ◌-◌, ℕ, Bool, true, false, nat_lt, List, [], ◌∷◌, length, slice_get, Option, Some, None, unwrap_or, option_map}
 use Rattle.std.specs.Option.{IfSome, ForSome, option_map_or, option_or, is_some}
-use Rattle.crash_disk.specs.Disk.{History, fresh_history, content, FaultPlan}
-use Rattle.crash_disk.specs.Memory.{MemState, plan_of, after_crash}
-use Rattle.crash_disk.specs.Outcomes.{image_after}
-use Rattle.crash_disk.specs.declared.outcome.Outcome.{Outcome}
-use Rattle.gate_journal.specs.Image.{kept_records}
-use Rattle.gate_journal.specs.declared.refusal.JournalRefusal.{JournalRefusal}
-use Rattle.node_journal.specs.Notes.{NotesState, Did, Opened, RefusesRole}
-use Rattle.node_journal.specs.Parts.{Parts}
-use Rattle.node_journal.specs.Role.{role_in}
-use Rattle.node_journal.specs.declared.stop.Stop.{Stop}
-use Rattle.node_journal.specs.declared.stop.Stop.TheVariants.{DeviceFault, NoMemory}
-use Rattle.plasma_tx.specs.declared.call.RootCall.{RootCall}
-use Rattle.plasma_tx.specs.declared.owner.Owner.{Owner}
-use Rattle.node_rules.specs.declared.identity.WalletIdentity.{WalletIdentity}
-use Rattle.node_rules.specs.WalletRecords.{identity_text, owner_of, secret_of, who_is}
-use Rattle.node_rules.specs.Watcher.{watcher_kinds}
-use Rattle.node_rules.specs.Wallet.{WalletRecords}
+use Rattle.crash_disk.specs.{Disk.{History, fresh_history, content, FaultPlan}, Memory.{MemState, plan_of, after_crash}, Outcomes.{image_after}, declared.outcome.Outcome.{Outcome}}
+use Rattle.gate_journal.specs.{Image.{kept_records}, declared.refusal.JournalRefusal.{JournalRefusal}, declared.refusal.JournalRefusal.TheVariants.{DeviceFault as JournalFault, NoMemory as JournalNoMemory}}
+use Rattle.node_journal.specs.{Notes.{NotesState, Did, Opened, RefusesRole}, Parts.{Parts}, Role.{role_in}, declared.stop.Stop.{Stop}, declared.stop.Stop.TheVariants.{DeviceFault, NoMemory}}
+use Rattle.plasma_tx.specs.{declared.call.RootCall.{RootCall}, declared.owner.Owner.{Owner}}
+use Rattle.node_rules.specs.{declared.identity.WalletIdentity.{WalletIdentity}, WalletRecords.{identity_text, owner_of, secret_of, who_is}, Watcher.{watcher_kinds}, Wallet.{WalletRecords}}
 use Rattle.operator_rules.specs.Records.{operator_kinds}
-use Rattle.wallet_node.specs.State.{notes_part, leaves_part}
-use Rattle.wallet_node.specs.Opening.{OpensWallet, RefusesWallet}
-use Rattle.world_rules.specs.World.{Role, Watcher, Node}
+use Rattle.wallet_node.specs.{State.{notes_part, leaves_part}, Opening.{OpensWallet, RefusesWallet}}
+use Rattle.world_rules.specs.{World.{Role, Watcher, Node}, Orders.{node_does}}
 use Rattle.leaf_journal.specs.Records.{messages_of}
-use Rattle.gate_journal.specs.declared.refusal.JournalRefusal.TheVariants.{DeviceFault as JournalFault, NoMemory as JournalNoMemory}
-use Rattle.node_replies.specs.declared.reply.Reply.{Reply}
+use Rattle.node_replies.specs.{declared.reply.Reply.{Reply}, declared.given.Given.{Given}, Given.{IsGiven}, Orders.{Response, Doing, says}, declared.order.NodeOrder.{NodeOrder}}
 use Rattle.node_deeds.specs.WalletOrders.{Does}
-use Rattle.node_replies.specs.declared.given.Given.{Given}
-use Rattle.node_replies.specs.Given.{IsGiven}
-use Rattle.node_replies.specs.Orders.{Response, Doing, says}
-use Rattle.world_rules.specs.Orders.{node_does}
-use Rattle.world_nodes.specs.declared.order.NodeKind.{NodeKind}
-use Rattle.node_replies.specs.declared.order.NodeOrder.{NodeOrder}
-use Rattle.world_nodes.specs.declared.order.NodeKind.TheVariants.{Wallet as WalletKind, Watcher as WatcherKind, Operator as OperatorKind}
-use Rattle.world_nodes.specs.declared.order.CutEnd.{CutEnd}
-use Rattle.world_nodes.specs.declared.order.CutEnd.TheVariants.{Down as CutDown, Stopped as CutStopped, Done as CutDone}
-use Rattle.world_nodes.specs.declared.kept.Counts.{Counts}
-use Rattle.world_nodes.specs.declared.down.DownNode.{DownNode}
-use Rattle.world_nodes.specs.declared.down.DownNode.TheVariants.{Wallet as WalletDown, Watcher as WatcherDown, Operator as OperatorDown}
-use Rattle.world_nodes.specs.declared.up.UpNode.{UpNode}
-use Rattle.world_nodes.specs.declared.up.UpNode.TheVariants.{Wallet as WalletUp, Watcher as WatcherUp, Operator as OperatorUp}
-use Rattle.world_nodes.specs.declared.entry.Site.{Site}
-use Rattle.world_nodes.specs.declared.entry.Site.TheVariants.{Up, Down, Gone}
-use Rattle.world_nodes.specs.declared.entry.Member.{Member}
-use Rattle.world_nodes.specs.declared.entry.Member.TheVariants.{Wallet as WalletMember, Watcher as WatcherMember, Operator as OperatorMember}
-use Rattle.world_nodes.specs.Nodes.{NodeView, EachKeeps, role_of, AreOf}
+use Rattle.world_nodes.specs.{declared.order.NodeKind.{NodeKind}, declared.order.NodeKind.TheVariants.{Wallet as WalletKind, Watcher as WatcherKind, Operator as OperatorKind}, declared.order.CutEnd.{CutEnd}}
+use Rattle.world_nodes.specs.{declared.order.CutEnd.TheVariants.{Down as CutDown, Stopped as CutStopped, Done as CutDone}, declared.kept.Counts.{Counts}, declared.down.DownNode.{DownNode}}
+use Rattle.world_nodes.specs.{declared.down.DownNode.TheVariants.{Wallet as WalletDown, Watcher as WatcherDown, Operator as OperatorDown}, declared.up.UpNode.{UpNode}}
+use Rattle.world_nodes.specs.{declared.up.UpNode.TheVariants.{Wallet as WalletUp, Watcher as WatcherUp, Operator as OperatorUp}, declared.entry.Site.{Site}, declared.entry.Site.TheVariants.{Up, Down, Gone}, declared.entry.Member.{Member}}
+use Rattle.world_nodes.specs.{declared.entry.Member.TheVariants.{Wallet as WalletMember, Watcher as WatcherMember, Operator as OperatorMember}, Nodes.{NodeView, EachKeeps, role_of, AreOf}}
 
 -- ---- disks in memory
 

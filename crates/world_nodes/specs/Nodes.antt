@@ -2,33 +2,15 @@
 -- and a declaration do.
 use Rattle.std.specs.Prelude.{◌≡◌, ℕ, Bool, true, false, ◌&&◌, not, List, [], length, codes, Option, Some, None, option_map, MatchBool}
 use Rattle.std.specs.Option.{ForSome, is_some}
-use Rattle.crash_disk.specs.Disk.{Step, asks_length, History, fresh_history, content, with_call, MayLeave}
-use Rattle.crash_disk.specs.Calls.{with_made, passed, after_course}
-use Rattle.crash_disk.specs.Outcomes.{image_after}
-use Rattle.crash_disk.specs.declared.outcome.Outcome.{Outcome}
-use Rattle.gate_journal.specs.Image.{spelled}
-use Rattle.gate_journal.specs.Steps.{append_steps, open_steps}
-use Rattle.gate_journal.specs.Journal.{Keeps}
-use Rattle.node_journal.specs.Begin.{init_steps, journal_steps}
-use Rattle.node_journal.specs.Role.{are_of}
+use Rattle.crash_disk.specs.{Disk.{Step, asks_length, History, fresh_history, content, with_call, MayLeave}, Calls.{with_made, passed, after_course}, Outcomes.{image_after}, declared.outcome.Outcome.{Outcome}}
+use Rattle.gate_journal.specs.{Image.{spelled}, Steps.{append_steps, open_steps}, Journal.{Keeps}}
+use Rattle.node_journal.specs.{Begin.{init_steps, journal_steps}, Role.{are_of}}
 use Rattle.plasma_tx.specs.declared.call.RootCall.{RootCall}
-use Rattle.node_rules.specs.declared.identity.WalletIdentity.{WalletIdentity}
-use Rattle.node_rules.specs.WalletRecords.{identity_text as wallet_text}
-use Rattle.node_rules.specs.Watcher.{identity_text as watcher_text, watcher_kinds}
-use Rattle.node_rules.specs.Wallet.{WalletRecords}
-use Rattle.node_rules.specs.WalletOpening.{is_wallet}
+use Rattle.node_rules.specs.{declared.identity.WalletIdentity.{WalletIdentity}, WalletRecords.{identity_text as wallet_text}, Watcher.{identity_text as watcher_text, watcher_kinds}, Wallet.{WalletRecords}, WalletOpening.{is_wallet}}
 use Rattle.operator_rules.specs.Records.{identity_text as operator_text, operator_kinds}
-use Rattle.node_replies.specs.declared.reply.Reply.{Reply}
-use Rattle.world_rules.specs.World.{Role, Wallet, Watcher, Operator, Node, is_wallet_role, wallet_of}
-use Rattle.world_rules.specs.Orders.{node_does}
-use Rattle.world_rules.specs.Steps.{new_node, after_crash}
-use Rattle.node_replies.specs.declared.given.Given.{Given}
-use Rattle.node_replies.specs.Given.{IsGiven}
-use Rattle.node_replies.specs.Orders.{Doing, says, with_record}
-use Rattle.world_nodes.specs.declared.order.NodeKind.{NodeKind}
-use Rattle.world_nodes.specs.declared.order.NodeKind.TheVariants.{Wallet as WalletKind, Watcher as WatcherKind, Operator as OperatorKind}
-use Rattle.node_replies.specs.declared.order.NodeOrder.{NodeOrder}
-use Rattle.world_nodes.specs.Orders.{is_opening_order}
+use Rattle.node_replies.specs.{declared.reply.Reply.{Reply}, declared.given.Given.{Given}, Given.{IsGiven}, Orders.{Doing, says, with_record}, declared.order.NodeOrder.{NodeOrder}}
+use Rattle.world_rules.specs.{World.{Role, Wallet, Watcher, Operator, Node, is_wallet_role, wallet_of}, Orders.{node_does}, Steps.{new_node, after_crash}}
+use Rattle.world_nodes.specs.{declared.order.NodeKind.{NodeKind}, declared.order.NodeKind.TheVariants.{Wallet as WalletKind, Watcher as WatcherKind, Operator as OperatorKind}, Orders.{is_opening_order}}
 
 -- a node, what the disk of its notes and that of its leaves tell, and the digest that it is opened with; where the
 -- disks spell the node's records (Spells), wallets alone have one of leaves

@@ -1,8 +1,7 @@
 -- Which nodes have an order, and what holds of one that is made of bytes.
 use Rattle.std.specs.Prelude.{Bool, true, false}
 use Rattle.world_rules.specs.World.{Role, Wallet, Watcher, Operator}
-use Rattle.node_deeds.specs.WalletLaws.{IsFitOrder}
-use Rattle.node_deeds.specs.WatcherLaws.{HasBytes}
+use Rattle.node_deeds.specs.{WalletLaws.{IsFitOrder}, WatcherLaws.{HasBytes}}
 use Rattle.node_replies.specs.declared.order.NodeOrder.{NodeOrder}
 
 -- nodes of the role have the order

@@ -1,11 +1,7 @@
 -- The step of a line is what its act does.
 use Rattle.std.specs.Prelude.{◌≡◌, ℕ, List, Some, is_some, option_map}
 use Rattle.schedule_text.specs.declared.line.Line.{Line}
-use Rattle.world_rules.specs.World.{World}
-use Rattle.world_rules.specs.Declarations.{keeps_rules}
-use Rattle.world_rules.specs.Steps.{effect_in, with_mail, step}
-use Rattle.world_rules.specs.Acts.{Act, act_of, done}
-use Rattle.world_rules.specs.Evidence.{IsActIn}
+use Rattle.world_rules.specs.{World.{World}, Declarations.{keeps_rules}, Steps.{effect_in, with_mail, step}, Acts.{Act, act_of, done}, Evidence.{IsActIn}}
 
 -- a line is an act exactly where it keeps the rules of declarations
 abbrev pub ActsKeepTheRules : Type 0

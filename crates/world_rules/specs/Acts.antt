@@ -6,20 +6,12 @@ use Rattle.std.specs.Str.{bytes_eq}
 use Rattle.crash_disk.specs.declared.outcome.Outcome.{Outcome}
 use Rattle.gate_journal.specs.Laws.{is_added}
 use Rattle.lms_sign.specs.Types.{leaf_count}
-use Rattle.plasma_tx.specs.declared.body.Body.{Body}
-use Rattle.plasma_tx.specs.declared.call.RootCall.{RootCall}
-use Rattle.plasma_tx.specs.Money.{balance_of}
-use Rattle.schedule_text.specs.declared.line.Line.{Line}
-use Rattle.schedule_text.specs.declared.command.Command.{Command}
-use Rattle.schedule_text.specs.Grammar.{node_of}
+use Rattle.plasma_tx.specs.{declared.body.Body.{Body}, declared.call.RootCall.{RootCall}, Money.{balance_of}}
+use Rattle.schedule_text.specs.{declared.line.Line.{Line}, declared.command.Command.{Command}, Grammar.{node_of}}
 use Rattle.node_rules.specs.declared.identity.WalletIdentity.{WalletIdentity}
-use Rattle.node_replies.specs.declared.reply.Reply.{Reply}
-use Rattle.node_replies.specs.declared.order.NodeOrder.{NodeOrder}
-use Rattle.world_rules.specs.Events.{Event, Other, Idle}
-use Rattle.world_rules.specs.World.{Role, Node, Rogue, World, is_wallet_role, any_role, with_node, number_of, rogue_named, owner_of_node, new_owner_of, call_of}
-use Rattle.world_rules.specs.Declarations.{plays, declared_wallet, may_be_wallet, may_be_other, is_wallet_account}
-use Rattle.world_rules.specs.Orders.{order_of, node_does}
-use Rattle.world_rules.specs.Deeds.{Deed, as_deed, adds_record}
+use Rattle.node_replies.specs.{declared.reply.Reply.{Reply}, declared.order.NodeOrder.{NodeOrder}}
+use Rattle.world_rules.specs.{Events.{Event, Other, Idle}, World.{Role, Node, Rogue, World, is_wallet_role, any_role, with_node, number_of, rogue_named, owner_of_node, new_owner_of, call_of}}
+use Rattle.world_rules.specs.{Declarations.{plays, declared_wallet, may_be_wallet, may_be_other, is_wallet_account}, Orders.{order_of, node_does}, Deeds.{Deed, as_deed, adds_record}}
 use Rattle.world_rules.specs.Steps.{LineEffect, says, declares_wallet, declares_watcher, declares_rogue, log_in, called, deposit_by, offer_numbered, with_records, after_command, after_crash, crashed, outcome_of, without_offers, signed_by, signed_body}
 
 -- ---- what there is to do

@@ -3,14 +3,9 @@ use Rattle.std.specs.Prelude.{ℕ, ◌==◌, ◌&&◌, ◌||◌, not, Bool, true
 use Rattle.std.specs.List.{list_any}
 use Rattle.std.specs.Option.{option_map_or}
 use Rattle.std.specs.Str.{bytes_eq}
-use Rattle.lms_sign.specs.declared.types.LmsTypes.{LmsTypes}
-use Rattle.lms_sign.specs.Types.{leaf_count}
-use Rattle.schedule_text.specs.declared.line.Line.{Line}
-use Rattle.schedule_text.specs.declared.command.Command.{Command}
-use Rattle.schedule_text.specs.declared.command.WalletCommand.{WalletCommand}
-use Rattle.schedule_text.specs.Grammar.{node_of}
-use Rattle.node_rules.specs.declared.identity.WalletIdentity.{WalletIdentity}
-use Rattle.node_rules.specs.WalletRecords.{who_is, owner_of}
+use Rattle.lms_sign.specs.{declared.types.LmsTypes.{LmsTypes}, Types.{leaf_count}}
+use Rattle.schedule_text.specs.{declared.line.Line.{Line}, declared.command.Command.{Command}, declared.command.WalletCommand.{WalletCommand}, Grammar.{node_of}}
+use Rattle.node_rules.specs.{declared.identity.WalletIdentity.{WalletIdentity}, WalletRecords.{who_is, owner_of}}
 use Rattle.world_rules.specs.declared.TheConstants.{MOST_WALLETS}
 use Rattle.world_rules.specs.World.{Role, Node, Rogue, World, is_wallet_role, is_watcher_role, is_operator_role, does_watch, padded, number_of, any_role, rogue_named, owner_of_node, new_owner_of, call_of}
 

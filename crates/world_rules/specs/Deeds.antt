@@ -3,13 +3,8 @@
 use Rattle.std.specs.Prelude.{ℕ, ◌||◌, Bool, List, Option, is_some, option_map}
 use Rattle.plasma_tx.specs.declared.call.RootCall.{RootCall}
 use Rattle.schedule_text.specs.declared.command.Command.{Command}
-use Rattle.node_replies.specs.declared.reply.Reply.{Reply}
-use Rattle.node_replies.specs.declared.order.NodeOrder.{NodeOrder}
-use Rattle.node_replies.specs.Orders.{Doing}
-use Rattle.world_rules.specs.Events.{Event}
-use Rattle.world_rules.specs.World.{Node, World}
-use Rattle.world_rules.specs.Orders.{order_of, node_does}
-use Rattle.world_rules.specs.OrderEvents.{event_of}
+use Rattle.node_replies.specs.{declared.reply.Reply.{Reply}, declared.order.NodeOrder.{NodeOrder}, Orders.{Doing}}
+use Rattle.world_rules.specs.{Events.{Event}, World.{Node, World}, Orders.{order_of, node_does}, OrderEvents.{event_of}}
 
 -- what a command gives out: its answer, the bytes that it makes and the calls that it offers; and the event that it is
 pub record Gives : Type 0 where

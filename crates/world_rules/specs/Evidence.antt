@@ -5,10 +5,8 @@ use Rattle.plasma_tx.specs.declared.call.RootCall.{RootCall}
 use Rattle.schedule_text.specs.declared.call_form.CallForm.{CallForm}
 use Rattle.node_rules.specs.declared.identity.WalletIdentity.{WalletIdentity}
 use Rattle.node_replies.specs.declared.order.NodeOrder.{NodeOrder}
-use Rattle.world_rules.specs.World.{Role, World, is_wallet_role, is_watcher_role, is_operator_role, any_role, padded, owner_of_node, call_of}
-use Rattle.world_rules.specs.Declarations.{may_be_wallet, may_be_other, is_wallet_account}
-use Rattle.world_rules.specs.Steps.{deposit_by, offer_numbered}
-use Rattle.world_rules.specs.Acts.{Place, Newcomer, NewWallet, NewWatcher, NewRogue, Origin, Plain, Deposits, Raw, Offered, Act, Rests, Signs, Adds, Enters, Orders, Crashes, is_down_for}
+use Rattle.world_rules.specs.{World.{Role, World, is_wallet_role, is_watcher_role, is_operator_role, any_role, padded, owner_of_node, call_of}, Declarations.{may_be_wallet, may_be_other, is_wallet_account}}
+use Rattle.world_rules.specs.{Steps.{deposit_by, offer_numbered}, Acts.{Place, Newcomer, NewWallet, NewWatcher, NewRogue, Origin, Plain, Deposits, Raw, Offered, Act, Rests, Signs, Adds, Enters, Orders, Crashes, is_down_for}}
 
 -- the world has the node, under the number
 abbrev pub IsThere : World → Place → Type 0

@@ -4,21 +4,13 @@ use Rattle.std.specs.Prelude.{ℕ, ◌+◌, ◌==◌, ◌&&◌, ◌||◌, not, B
 use Rattle.std.specs.List.{list_any, flat_map}
 use Rattle.std.specs.Option.{option_eq, option_or}
 use Rattle.std.specs.Str.{bytes_eq}
-use Rattle.sparse_merkle.specs.MaskedPath.{proof_path}
-use Rattle.sparse_merkle.specs.Opening.{hashed_strings}
-use Rattle.plasma_tx.specs.declared.owner.Owner.{Owner}
-use Rattle.plasma_tx.specs.declared.body.Body.{Body}
-use Rattle.plasma_tx.specs.declared.signed_tx.SignedTx.{SignedTx}
-use Rattle.plasma_tx.specs.declared.opening.RawOpening.{RawOpening}
-use Rattle.plasma_tx.specs.declared.opening.Opening.{Opening}
-use Rattle.plasma_tx.specs.declared.opening.OpeningRefusal.{OpeningRefusal}
-use Rattle.plasma_tx.specs.Openings.{opening_in, leaf_in}
-use Rattle.plasma_tx.specs.Transfer.{transfer_in, is_signed_by}
+use Rattle.sparse_merkle.specs.{MaskedPath.{proof_path}, Opening.{hashed_strings}}
+use Rattle.plasma_tx.specs.{declared.owner.Owner.{Owner}, declared.body.Body.{Body}, declared.signed_tx.SignedTx.{SignedTx}, declared.opening.RawOpening.{RawOpening}, declared.opening.Opening.{Opening}}
+use Rattle.plasma_tx.specs.{declared.opening.OpeningRefusal.{OpeningRefusal}, Openings.{opening_in, leaf_in}, Transfer.{transfer_in, is_signed_by}}
 use Rattle.coin_history.specs.declared.bundle.Bundle.{Bundle}
 use Rattle.watch_duty.specs.Laws.{openings_of_call}
 use Rattle.wallet_core.specs.State.{is_owner}
-use Rattle.world_rules.specs.declared.verdict.Exhibit.{Exhibit}
-use Rattle.world_rules.specs.Events.{Event, Joins, Accepts, Guards, TakesBack, wallet_owner, wallets, bound_by, coin_of_call}
+use Rattle.world_rules.specs.{declared.verdict.Exhibit.{Exhibit}, Events.{Event, Joins, Accepts, Guards, TakesBack, wallet_owner, wallets, bound_by, coin_of_call}}
 
 -- ---- openings
 

@@ -4,28 +4,14 @@ use Rattle.std.specs.List.{Contains, count_by, All, list_any}
 use Rattle.std.specs.Str.{bytes_eq}
 use Rattle.line_forms.specs.declared.tokens.OutcomeToken.{OutcomeToken}
 use Rattle.gate_journal.specs.Laws.{is_added}
-use Rattle.plasma_tx.specs.declared.owner.Owner.{Owner}
-use Rattle.plasma_tx.specs.declared.call.RootCall.{RootCall}
-use Rattle.plasma_tx.specs.Chain.{with_log}
-use Rattle.plasma_tx.specs.Shown.{tests_by, rules_of}
-use Rattle.plasma_tx.specs.Table.{answer_to, is_accepted}
-use Rattle.schedule_text.specs.declared.line.Line.{Line}
-use Rattle.schedule_text.specs.declared.command.Command.{Command}
-use Rattle.schedule_text.specs.Grammar.{node_of, IsLine}
+use Rattle.plasma_tx.specs.{declared.owner.Owner.{Owner}, declared.call.RootCall.{RootCall}, Chain.{with_log}, Shown.{tests_by, rules_of}, Table.{answer_to, is_accepted}, Spelling.{AreBytes}}
+use Rattle.schedule_text.specs.{declared.line.Line.{Line}, declared.command.Command.{Command}, Grammar.{node_of, IsLine}}
 use Rattle.node_replies.specs.declared.reply.Reply.{Reply}
-use Rattle.plasma_tx.specs.Spelling.{AreBytes}
 use Rattle.wallet_core.specs.State.{holds as wallet_holds}
-use Rattle.node_rules.specs.WalletRecords.{leaves_in}
-use Rattle.node_rules.specs.Wallet.{noted}
-use Rattle.node_rules.specs.Watcher.{is_of, guards_in}
-use Rattle.world_rules.specs.Safety.{holds}
-use Rattle.world_rules.specs.declared.verdict.Verdict.{Verdict}
-use Rattle.world_rules.specs.Events.{Event, Joins, Idle, log_of, wallet_owner, offers_of, bound_by, taken_back, is_taken, is_bundle, guarded_by}
-use Rattle.world_rules.specs.World.{Node, World, any_role, number_of, is_wallet_role, is_watcher_role, owner_of_node, wallet_of}
-use Rattle.world_rules.specs.Declarations.{plays, keeps_rules}
-use Rattle.world_rules.specs.Deeds.{Deed, deed_of, adds_record}
-use Rattle.world_rules.specs.Steps.{LineEffect, step, answers_down, is_opening, with_records, after_crash, outcome_of, Run, run_of, events_of}
-use Rattle.world_rules.specs.Verdicts.{verdict_at, ever_held, verdicts_of}
+use Rattle.node_rules.specs.{WalletRecords.{leaves_in}, Wallet.{noted}, Watcher.{is_of, guards_in}}
+use Rattle.world_rules.specs.{Safety.{holds}, declared.verdict.Verdict.{Verdict}, Events.{Event, Joins, Idle, log_of, wallet_owner, offers_of, bound_by, taken_back, is_taken, is_bundle, guarded_by}}
+use Rattle.world_rules.specs.{World.{Node, World, any_role, number_of, is_wallet_role, is_watcher_role, owner_of_node, wallet_of}, Declarations.{plays, keeps_rules}, Deeds.{Deed, deed_of, adds_record}}
+use Rattle.world_rules.specs.{Steps.{LineEffect, step, answers_down, is_opening, with_records, after_crash, outcome_of, Run, run_of, events_of}, Verdicts.{verdict_at, ever_held, verdicts_of}}
 
 -- ---- steps
 

@@ -1,15 +1,9 @@
 -- The event that an order of a node is, by what it gave out.
 use Rattle.std.specs.Prelude.{ℕ, List, [], ◌∷◌, unwrap_or}
 use Rattle.std.specs.Result.{result_ok}
-use Rattle.plasma_tx.specs.declared.call.RootCall.{RootCall}
-use Rattle.plasma_tx.specs.Spelling.{body_at_start}
-use Rattle.coin_history.specs.declared.bundle.Bundle.{Bundle}
-use Rattle.coin_history.specs.Bundles.{bundle_in}
-use Rattle.node_replies.specs.declared.reply.Reply.{Reply}
-use Rattle.node_replies.specs.declared.order.WalletOrder.{WalletOrder}
-use Rattle.node_replies.specs.declared.order.WatcherOrder.{WatcherOrder}
-use Rattle.node_replies.specs.declared.order.OperatorOrder.{OperatorOrder}
-use Rattle.node_replies.specs.declared.order.NodeOrder.{NodeOrder}
+use Rattle.plasma_tx.specs.{declared.call.RootCall.{RootCall}, Spelling.{body_at_start}}
+use Rattle.coin_history.specs.{declared.bundle.Bundle.{Bundle}, Bundles.{bundle_in}}
+use Rattle.node_replies.specs.{declared.reply.Reply.{Reply}, declared.order.WalletOrder.{WalletOrder}, declared.order.WatcherOrder.{WatcherOrder}, declared.order.OperatorOrder.{OperatorOrder}, declared.order.NodeOrder.{NodeOrder}}
 use Rattle.node_replies.specs.Orders.{Response}
 use Rattle.world_rules.specs.Events.{Event, Accepts, Guards, Releases, Binds, TakesBack, Watches, Leaves, Seals, Other}
 

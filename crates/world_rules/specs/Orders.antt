@@ -3,15 +3,8 @@
 use Rattle.std.specs.Prelude.{ℕ, ◌-◌, Bool, true, false, List, length, Option, Some, None, option_map}
 use Rattle.leaf_journal.specs.Records.{messages_of}
 use Rattle.plasma_tx.specs.declared.call.RootCall.{RootCall}
-use Rattle.schedule_text.specs.declared.command.Command.{Command}
-use Rattle.schedule_text.specs.declared.command.WalletCommand.{WalletCommand}
-use Rattle.schedule_text.specs.declared.command.WatcherCommand.{WatcherCommand}
-use Rattle.schedule_text.specs.declared.command.OperatorCommand.{OperatorCommand}
-use Rattle.node_replies.specs.declared.reply.Reply.{Reply}
-use Rattle.node_replies.specs.declared.order.WalletOrder.{WalletOrder}
-use Rattle.node_replies.specs.declared.order.WatcherOrder.{WatcherOrder}
-use Rattle.node_replies.specs.declared.order.OperatorOrder.{OperatorOrder}
-use Rattle.node_replies.specs.declared.order.NodeOrder.{NodeOrder}
+use Rattle.schedule_text.specs.{declared.command.Command.{Command}, declared.command.WalletCommand.{WalletCommand}, declared.command.WatcherCommand.{WatcherCommand}, declared.command.OperatorCommand.{OperatorCommand}}
+use Rattle.node_replies.specs.{declared.reply.Reply.{Reply}, declared.order.WalletOrder.{WalletOrder}, declared.order.WatcherOrder.{WatcherOrder}, declared.order.OperatorOrder.{OperatorOrder}, declared.order.NodeOrder.{NodeOrder}}
 use Rattle.node_replies.specs.Orders.{Response, Doing, says, without_record, wallet_does, watcher_does, operator_does}
 use Rattle.world_rules.specs.World.{Role, Wallet, Watcher, Operator, Node, World, wallet_of, bytes_of, new_owner_of}
 

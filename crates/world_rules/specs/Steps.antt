@@ -4,30 +4,15 @@ use Rattle.line_forms.specs.declared.tokens.OutcomeToken.{OutcomeToken}
 use Rattle.crash_disk.specs.declared.outcome.Outcome.{Outcome}
 use Rattle.gate_journal.specs.Laws.{is_added}
 use Rattle.lms_sign.specs.Tree.{signature_of}
-use Rattle.plasma_tx.specs.declared.owner.Owner.{Owner}
-use Rattle.plasma_tx.specs.declared.body.Body.{Body}
-use Rattle.plasma_tx.specs.declared.call.RootCall.{RootCall}
-use Rattle.plasma_tx.specs.declared.answer.Answer.{Answer}
-use Rattle.plasma_tx.specs.Chain.{Chain, with_log}
-use Rattle.plasma_tx.specs.Spelling.{body_text}
-use Rattle.plasma_tx.specs.Money.{balance_of}
-use Rattle.plasma_tx.specs.Shown.{tests_by, rules_of}
-use Rattle.plasma_tx.specs.Table.{answer_to, is_accepted, log_after}
-use Rattle.schedule_text.specs.declared.line.Line.{Line}
-use Rattle.schedule_text.specs.declared.command.Command.{Command}
-use Rattle.schedule_text.specs.Grammar.{node_of}
-use Rattle.node_rules.specs.declared.identity.WalletIdentity.{WalletIdentity}
-use Rattle.node_rules.specs.Watcher.{identity_text as watcher_text}
-use Rattle.node_rules.specs.WalletRecords.{identity_text as wallet_text, owner_of, secret_of}
+use Rattle.plasma_tx.specs.{declared.owner.Owner.{Owner}, declared.body.Body.{Body}, declared.call.RootCall.{RootCall}, declared.answer.Answer.{Answer}, Chain.{Chain, with_log}, Spelling.{body_text}, Money.{balance_of}}
+use Rattle.plasma_tx.specs.{Shown.{tests_by, rules_of}, Table.{answer_to, is_accepted, log_after}}
+use Rattle.schedule_text.specs.{declared.line.Line.{Line}, declared.command.Command.{Command}, Grammar.{node_of}}
+use Rattle.node_rules.specs.{declared.identity.WalletIdentity.{WalletIdentity}, Watcher.{identity_text as watcher_text}, WalletRecords.{identity_text as wallet_text, owner_of, secret_of}}
 use Rattle.operator_rules.specs.Records.{identity_text as operator_text}
-use Rattle.world_rules.specs.declared.TheConstants.{MOST_MAIL}
-use Rattle.node_replies.specs.declared.reply.Reply.{Reply}
-use Rattle.node_replies.specs.Causes.{contract_cause}
-use Rattle.world_rules.specs.Events.{Event, Declares, Joins, Bounces, Watches, Leaves, Seals, Other, Idle}
-use Rattle.world_rules.specs.World.{Role, Wallet, Watcher, Operator, Node, Rogue, World, with_node, padded, any_role, number_of, rogue_named, owner_named, new_owner_of, call_of}
-use Rattle.world_rules.specs.Declarations.{plays, declared_wallet, keeps_rules}
+use Rattle.world_rules.specs.{declared.TheConstants.{MOST_MAIL}, Events.{Event, Declares, Joins, Bounces, Watches, Leaves, Seals, Other, Idle}}
+use Rattle.node_replies.specs.{declared.reply.Reply.{Reply}, Causes.{contract_cause}, Orders.{with_record}}
+use Rattle.world_rules.specs.{World.{Role, Wallet, Watcher, Operator, Node, Rogue, World, with_node, padded, any_role, number_of, rogue_named, owner_named, new_owner_of, call_of}, Declarations.{plays, declared_wallet, keeps_rules}}
 use Rattle.world_rules.specs.Deeds.{Deed, deed_of, adds_record}
-use Rattle.node_replies.specs.Orders.{with_record}
 
 -- ---- what a line does
 

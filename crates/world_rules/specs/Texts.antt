@@ -2,14 +2,8 @@
 use Rattle.std.specs.Prelude.{ℕ, ◌+◌, Bool, true, false, List, [], ◌∷◌, ◌++◌, length, codes}
 use Rattle.plasma_base.specs.HexText.{hex_text}
 use Rattle.line_forms.specs.Tokens.{number_text}
-use Rattle.node_replies.specs.declared.reply.Reply.{Reply}
-use Rattle.world_rules.specs.declared.verdict.Verdict.{Verdict}
-use Rattle.world_rules.specs.declared.verdict.VerdictKind.{VerdictKind}
-use Rattle.world_rules.specs.declared.verdict.Exhibit.{Exhibit}
-use Rattle.node_replies.specs.Causes.{phrase}
-use Rattle.node_replies.specs.Texts.{reply_text}
-use Rattle.world_rules.specs.Steps.{TraceEntry}
-use Rattle.world_rules.specs.declared.verdict.Counts.{Counts}
+use Rattle.node_replies.specs.{declared.reply.Reply.{Reply}, Causes.{phrase}, Texts.{reply_text}}
+use Rattle.world_rules.specs.{declared.verdict.Verdict.{Verdict}, declared.verdict.VerdictKind.{VerdictKind}, declared.verdict.Exhibit.{Exhibit}, Steps.{TraceEntry}, declared.verdict.Counts.{Counts}}
 
 -- what stands before the answer of a command in a `cut` which ended first
 abbrev pub done_text : Bool → List ℕ

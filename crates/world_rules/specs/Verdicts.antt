@@ -2,26 +2,13 @@
 use Rattle.std.specs.Prelude.{◌≡◌, ℕ, ◌+◌, ◌==◌, ◌&&◌, ◌||◌, not, Bool, true, false, if◌then◌else◌, List, [], ◌∷◌, ◌++◌, length, map, filter, Option, Some, None, option_map, option_and_then}
 use Rattle.std.specs.List.{Contains, count_by, flat_map, filter_map, range_with_len}
 use Rattle.std.specs.Option.{option_map_or, option_or}
-use Rattle.plasma_tx.specs.declared.owner.Owner.{Owner}
-use Rattle.plasma_tx.specs.declared.call.RootCall.{RootCall}
-use Rattle.plasma_tx.specs.declared.views.CoinView.{CoinView}
-use Rattle.plasma_tx.specs.Spelling.{body_at_start}
-use Rattle.plasma_tx.specs.Views.{blocks, coins, coin_at, Exit, exit_at}
-use Rattle.plasma_tx.specs.Shown.{Tests, Rules, tests_by, rules_of}
-use Rattle.plasma_tx.specs.RuleLaws.{is_paid}
-use Rattle.plasma_tx.specs.Table.{answer_to}
-use Rattle.schedule_text.specs.declared.line.Line.{Line}
-use Rattle.schedule_text.specs.declared.command.Command.{Command}
+use Rattle.plasma_tx.specs.{declared.owner.Owner.{Owner}, declared.call.RootCall.{RootCall}, declared.views.CoinView.{CoinView}, Spelling.{body_at_start}, Views.{blocks, coins, coin_at, Exit, exit_at}}
+use Rattle.plasma_tx.specs.{Shown.{Tests, Rules, tests_by, rules_of}, RuleLaws.{is_paid}, Table.{answer_to}}
+use Rattle.schedule_text.specs.{declared.line.Line.{Line}, declared.command.Command.{Command}}
 use Rattle.wallet_core.specs.State.{own_deposit, greatest}
 use Rattle.node_replies.specs.declared.reply.Reply.{Reply}
-use Rattle.world_rules.specs.declared.verdict.Verdict.{Verdict}
-use Rattle.world_rules.specs.declared.verdict.VerdictKind.{VerdictKind}
-use Rattle.world_rules.specs.declared.verdict.Exhibit.{Exhibit}
-use Rattle.world_rules.specs.declared.verdict.Counts.{Counts}
-use Rattle.world_rules.specs.Events.{Event, Joins, log_of, wallet_owner, accepted, signed_away_by, is_sent_from}
-use Rattle.world_rules.specs.World.{Node, World, owner_named, is_wallet_role}
-use Rattle.world_rules.specs.Steps.{TraceEntry, Run, events_of}
-use Rattle.world_rules.specs.Exhibits.{exhibit_of}
+use Rattle.world_rules.specs.{declared.verdict.Verdict.{Verdict}, declared.verdict.VerdictKind.{VerdictKind}, declared.verdict.Exhibit.{Exhibit}, declared.verdict.Counts.{Counts}}
+use Rattle.world_rules.specs.{Events.{Event, Joins, log_of, wallet_owner, accepted, signed_away_by, is_sent_from}, World.{Node, World, owner_named, is_wallet_role}, Steps.{TraceEntry, Run, events_of}, Exhibits.{exhibit_of}}
 use Rattle.world_rules.specs.Safety.{holds, goes_unattended, is_mine, is_own}
 
 -- ---- the tip

@@ -5,20 +5,11 @@ use Rattle.std.specs.Int.{w64, to_be_bytes}
 use Rattle.std.specs.List.{position}
 use Rattle.std.specs.Option.{option_or}
 use Rattle.std.specs.Str.{bytes_eq}
-use Rattle.line_forms.specs.declared.tokens.HexOrName.{HexOrName}
-use Rattle.line_forms.specs.declared.tokens.HexOrItem.{HexOrItem}
-use Rattle.line_forms.specs.declared.tokens.ShownToken.{ShownToken}
-use Rattle.lms_sign.specs.declared.secret.Secret.{Secret}
-use Rattle.lms_sign.specs.Tree.{public_key_of}
-use Rattle.plasma_tx.specs.declared.opening.RawOpening.{RawOpening}
-use Rattle.plasma_tx.specs.declared.owner.Owner.{Owner}
-use Rattle.plasma_tx.specs.declared.call.Shown.{Shown}
-use Rattle.plasma_tx.specs.declared.call.RootCall.{RootCall}
-use Rattle.plasma_tx.specs.Chain.{Chain}
-use Rattle.plasma_tx.specs.Spelling.{owner_in}
+use Rattle.line_forms.specs.{declared.tokens.HexOrName.{HexOrName}, declared.tokens.HexOrItem.{HexOrItem}, declared.tokens.ShownToken.{ShownToken}}
+use Rattle.lms_sign.specs.{declared.secret.Secret.{Secret}, Tree.{public_key_of}}
+use Rattle.plasma_tx.specs.{declared.opening.RawOpening.{RawOpening}, declared.owner.Owner.{Owner}, declared.call.Shown.{Shown}, declared.call.RootCall.{RootCall}, Chain.{Chain}, Spelling.{owner_in}}
 use Rattle.schedule_text.specs.declared.call_form.CallForm.{CallForm}
-use Rattle.node_rules.specs.WalletRecords.{who_is, owner_of}
-use Rattle.node_rules.specs.Wallet.{WalletRecords}
+use Rattle.node_rules.specs.{WalletRecords.{who_is, owner_of}, Wallet.{WalletRecords}}
 pub use Rattle.node_replies.specs.Roles.{Role, Wallet, Watcher, Operator}
 
 -- ---- nodes

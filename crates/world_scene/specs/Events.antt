@@ -4,11 +4,8 @@ use Rattle.std.specs.Option.{ForSome}
 use Rattle.plasma_tx.specs.Shown.{tests_by, rules_of}
 use Rattle.schedule_text.specs.declared.line.Line.{Line}
 use Rattle.node_rules.specs.WalletOpening.{is_wallet}
-use Rattle.world_rules.specs.World.{Node, World, is_wallet_role, wallet_of}
-use Rattle.world_rules.specs.Steps.{LineEffect, effect_in}
-use Rattle.world_trace.specs.declared.event.LineEvent.{LineEvent}
-use Rattle.world_trace.specs.Events.{IsEvent}
-use Rattle.world_trace.specs.Orders.{TellsFinished, TellsStopped}
+use Rattle.world_rules.specs.{World.{Node, World, is_wallet_role, wallet_of}, Steps.{LineEffect, effect_in}}
+use Rattle.world_trace.specs.{declared.event.LineEvent.{LineEvent}, Events.{IsEvent}, Orders.{TellsFinished, TellsStopped}}
 use Rattle.node_replies.specs.declared.order.NodeOrder.{NodeOrder}
 use Rattle.world_nodes.specs.declared.order.CutEnd.{CutEnd}
 

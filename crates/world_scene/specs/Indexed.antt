@@ -2,8 +2,7 @@
 use Rattle.std.specs.Prelude.{◌≡◌, ℕ, Bool, List, map, filter}
 use Rattle.world_rules.specs.World.{is_wallet_role}
 use Rattle.world_nodes.specs.Nodes.{NodeView, Declared, declared_as}
-use Rattle.world_scene.specs.declared.places.Places.{Places}
-use Rattle.world_scene.specs.Places.{FindsEach}
+use Rattle.world_scene.specs.{declared.places.Places.{Places}, Places.{FindsEach}}
 
 -- what nodes were declared as
 abbrev pub all_declared : {H : Type 0} → List (NodeView H) → List Declared

@@ -1,16 +1,11 @@
 -- What a line does to the nodes' disks.
 use Rattle.std.specs.Prelude.{◌≡◌, ℕ, List, Some}
 use Rattle.line_forms.specs.declared.tokens.OutcomeToken.{OutcomeToken}
-use Rattle.schedule_text.specs.declared.line.Line.{Line}
-use Rattle.schedule_text.specs.declared.command.Command.{Command}
-use Rattle.world_rules.specs.World.{any_role, number_of}
-use Rattle.world_rules.specs.Steps.{outcome_of}
-use Rattle.node_replies.specs.declared.given.Given.{Given}
-use Rattle.node_replies.specs.declared.order.NodeOrder.{NodeOrder}
+use Rattle.schedule_text.specs.{declared.line.Line.{Line}, declared.command.Command.{Command}}
+use Rattle.world_rules.specs.{World.{any_role, number_of}, Steps.{outcome_of}}
+use Rattle.node_replies.specs.{declared.given.Given.{Given}, declared.order.NodeOrder.{NodeOrder}}
 use Rattle.world_nodes.specs.declared.order.CutEnd.{CutEnd}
-use Rattle.world_scene.specs.Scenes.{SceneState, world_of}
-use Rattle.world_scene.specs.Orders.{IsChosen}
-use Rattle.world_scene.specs.Steps.{RunsAt, CrashesAt, CutsAt, NodesStay, NodesGrow}
+use Rattle.world_scene.specs.{Scenes.{SceneState, world_of}, Orders.{IsChosen}, Steps.{RunsAt, CrashesAt, CutsAt, NodesStay, NodesGrow}}
 
 -- a command names one node, whose disks make the calls of the order that it is there; all other nodes stay
 pub record Commands {H : Type 0} (digest : H → List ℕ → List ℕ) (old : SceneState H) (command : Command)

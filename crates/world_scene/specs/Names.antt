@@ -4,8 +4,7 @@ use Rattle.std.specs.Str.{bytes_eq}
 use Rattle.plasma_tx.specs.declared.owner.Owner.{Owner}
 use Rattle.node_rules.specs.WalletRecords.{who_is}
 use Rattle.world_rules.specs.World.{Role, Rogue, owner_of_node, any_role, is_wallet_role, is_watcher_role, is_operator_role, does_watch, is_named}
-use Rattle.world_nodes.specs.declared.order.NodeKind.{NodeKind}
-use Rattle.world_nodes.specs.Nodes.{NodeView}
+use Rattle.world_nodes.specs.{declared.order.NodeKind.{NodeKind}, Nodes.{NodeView}}
 use Rattle.world_scene.specs.declared.names.Roles.{Roles}
 
 -- the roles that pass

@@ -1,14 +1,10 @@
 -- The order of a node that a command stands for.
 use Rattle.std.specs.Prelude.{◌≡◌, ◌<◌, ℕ, List, length, slice_get, Option, Some}
 use Rattle.line_forms.specs.Tokens.{IsHexOrName}
-use Rattle.schedule_text.specs.declared.command.Command.{Command}
-use Rattle.schedule_text.specs.declared.command.WalletCommand.{WalletCommand}
-use Rattle.world_rules.specs.World.{World, number_of}
-use Rattle.world_rules.specs.Orders.{order_of}
+use Rattle.schedule_text.specs.{declared.command.Command.{Command}, declared.command.WalletCommand.{WalletCommand}, Grammar.{node_of}}
+use Rattle.world_rules.specs.{World.{World, number_of}, Orders.{order_of}, Declarations.{plays}}
 use Rattle.node_replies.specs.declared.order.NodeOrder.{NodeOrder}
 use Rattle.world_nodes.specs.Nodes.{NodeView}
-use Rattle.schedule_text.specs.Grammar.{node_of}
-use Rattle.world_rules.specs.Declarations.{plays}
 use Rattle.world_scene.specs.Scenes.{SceneState, world_of}
 
 -- the owner that a wallet's command names is a token of 64 bytes, or a name

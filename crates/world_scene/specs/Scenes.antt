@@ -4,8 +4,7 @@ use Rattle.std.specs.Prelude.{ℕ, Bool, List, map, Option, option_map}
 use Rattle.plasma_tx.specs.Chain.{Chain}
 use Rattle.schedule_text.specs.declared.line.Line.{Line}
 use Rattle.node_replies.specs.declared.reply.Reply.{Reply}
-use Rattle.world_rules.specs.World.{Node, Rogue, World}
-use Rattle.world_rules.specs.Steps.{LineEffect, effect_in}
+use Rattle.world_rules.specs.{World.{Node, Rogue, World}, Steps.{LineEffect, effect_in}}
 use Rattle.world_nodes.specs.Nodes.{NodeView}
 
 -- the contract's chain, the nodes in the order of their declarations, the strangers, the accounts of `call` lines, and

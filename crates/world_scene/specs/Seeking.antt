@@ -1,8 +1,7 @@
 -- What is looked for among the nodes.
 use Rattle.std.specs.Prelude.{Bool}
 use Rattle.world_nodes.specs.Nodes.{NodeView}
-use Rattle.world_scene.specs.declared.seeking.Sought.{Sought}
-use Rattle.world_scene.specs.Names.{has_wallet_key, has_wallet_seed, is_view_with}
+use Rattle.world_scene.specs.{declared.seeking.Sought.{Sought}, Names.{has_wallet_key, has_wallet_seed, is_view_with}}
 
 -- the node of a view is what is looked for
 abbrev pub is_sought : {H : Type 0} → Sought → NodeView H → Bool

@@ -3,20 +3,11 @@ use Rattle.std.specs.Prelude.{◌≡◌, ℕ, ◌&&◌, ◌||◌, not, nat_lt, B
 use Rattle.std.specs.List.{All}
 use Rattle.crash_disk.specs.declared.outcome.Outcome.{Outcome}
 use Rattle.plasma_tx.specs.declared.call.RootCall.{RootCall}
-use Rattle.node_replies.specs.declared.reply.Reply.{Reply}
+use Rattle.node_replies.specs.{declared.reply.Reply.{Reply}, declared.given.Given.{Given}, declared.order.NodeOrder.{NodeOrder}}
 use Rattle.node_rules.specs.declared.identity.WalletIdentity.{WalletIdentity}
-use Rattle.world_rules.specs.declared.TheConstants.{MOST_WALLETS}
-use Rattle.world_rules.specs.World.{Rogue, World}
-use Rattle.world_rules.specs.Steps.{offer_numbered}
-use Rattle.world_rules.specs.Declarations.{is_new_name, wallet_nodes, is_declared_account, is_caller, is_wallet_seed}
-use Rattle.node_replies.specs.declared.given.Given.{Given}
-use Rattle.node_replies.specs.declared.order.NodeOrder.{NodeOrder}
-use Rattle.world_nodes.specs.declared.order.CutEnd.{CutEnd}
-use Rattle.world_nodes.specs.Cuts.{Cuts}
-use Rattle.world_nodes.specs.Orders.{fits}
-use Rattle.world_nodes.specs.Nodes.{NodeView, Spells, Runs, Crashes}
-use Rattle.world_scene.specs.declared.answer.LineAnswer.{LineAnswer}
-use Rattle.world_scene.specs.Scenes.{SceneState, Shown}
+use Rattle.world_rules.specs.{declared.TheConstants.{MOST_WALLETS}, World.{Rogue, World}, Steps.{offer_numbered}, Declarations.{is_new_name, wallet_nodes, is_declared_account, is_caller, is_wallet_seed}}
+use Rattle.world_nodes.specs.{declared.order.CutEnd.{CutEnd}, Cuts.{Cuts}, Orders.{fits}, Nodes.{NodeView, Spells, Runs, Crashes}}
+use Rattle.world_scene.specs.{declared.answer.LineAnswer.{LineAnswer}, Scenes.{SceneState, Shown}}
 
 -- an answer, with the world after it, as what a line shows
 abbrev pub answered : LineAnswer → World → Shown

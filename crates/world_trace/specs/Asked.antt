@@ -1,12 +1,7 @@
 -- What a call that is entered would be to verdicts, before its answer is known.
 use Rattle.std.specs.Prelude.{◌≡◌, Bool, true, false, List, Option, Some, None}
-use Rattle.plasma_tx.specs.declared.call.RootCall.{RootCall}
-use Rattle.plasma_tx.specs.declared.answer.Answer.{Answer}
-use Rattle.plasma_tx.specs.Views.{exit_at}
-use Rattle.plasma_tx.specs.Shown.{Tests, Rules}
-use Rattle.plasma_tx.specs.Table.{is_accepted}
-use Rattle.coin_verdicts.specs.declared.fact.Fact.{Fact}
-use Rattle.coin_verdicts.specs.Facts.{ended, IsFactOfCall}
+use Rattle.plasma_tx.specs.{declared.call.RootCall.{RootCall}, declared.answer.Answer.{Answer}, Views.{exit_at}, Shown.{Tests, Rules}, Table.{is_accepted}}
+use Rattle.coin_verdicts.specs.{declared.fact.Fact.{Fact}, Facts.{ended, IsFactOfCall}}
 
 -- the fact is that of the call, where it is accepted behind these; a `finish` is taken as one that pays nothing
 abbrev pub IsAsked : List RootCall → RootCall → Fact → Type 0

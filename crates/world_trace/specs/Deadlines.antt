@@ -1,9 +1,7 @@
 -- Deadlines, as a log shows exits and challenges.
 use Rattle.std.specs.Prelude.{ℕ, ◌+◌, ◌&&◌, ◌||◌, not, Bool}
 use Rattle.std.specs.List.{list_any}
-use Rattle.plasma_tx.specs.declared.views.ChallengeView.{ChallengeView}
-use Rattle.plasma_tx.specs.declared.views.ExitView.{ExitView}
-use Rattle.plasma_tx.specs.declared.rules.TheConstants.{CHALLENGE_WINDOW, RESPONSE_WINDOW}
+use Rattle.plasma_tx.specs.{declared.views.ChallengeView.{ChallengeView}, declared.views.ExitView.{ExitView}, declared.rules.TheConstants.{CHALLENGE_WINDOW, RESPONSE_WINDOW}}
 use Rattle.world_rules.specs.Safety.{is_met}
 
 -- a tick from one time to another meets the end of the time in which the open challenge may be answered

@@ -1,11 +1,9 @@
 -- When an event in memory is that of the definitions, and what it is to verdicts.
 use Rattle.std.specs.Prelude.{◌≡◌, ℕ, ◌==◌, List, Option, Some, None}
 use Rattle.std.specs.List.{list_any}
-use Rattle.plasma_tx.specs.declared.call.RootCall.{RootCall}
-use Rattle.plasma_tx.specs.Shown.{Tests, Rules}
+use Rattle.plasma_tx.specs.{declared.call.RootCall.{RootCall}, Shown.{Tests, Rules}}
 use Rattle.world_rules.specs.Events.{Event, Declares, Joins, Bounces, Accepts, Guards, Releases, Binds, TakesBack, Watches, Leaves, Seals, Other, Idle, coin_of_call}
-use Rattle.coin_verdicts.specs.declared.fact.Fact.{Fact}
-use Rattle.coin_verdicts.specs.Facts.{AreThose, IsFactOfCall}
+use Rattle.coin_verdicts.specs.{declared.fact.Fact.{Fact}, Facts.{AreThose, IsFactOfCall}}
 use Rattle.world_trace.specs.declared.event.LineEvent.{LineEvent}
 
 -- it is that of a call that was accepted behind these

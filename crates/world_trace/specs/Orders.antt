@@ -1,24 +1,13 @@
 -- What an order of a node leaves behind as an event.
 use Rattle.std.specs.Prelude.{◌≡◌, ℕ, Bool, true, false, if◌then◌else◌, List, Option, Some, None}
 use Rattle.crash_disk.specs.declared.outcome.Outcome.{Outcome}
-use Rattle.plasma_tx.specs.declared.body.Body.{Body}
-use Rattle.plasma_tx.specs.declared.call.RootCall.{RootCall}
-use Rattle.plasma_tx.specs.Shown.{Tests, Rules}
+use Rattle.plasma_tx.specs.{declared.body.Body.{Body}, declared.call.RootCall.{RootCall}, Shown.{Tests, Rules}}
 use Rattle.node_rules.specs.WalletOpening.{is_wallet}
-use Rattle.world_rules.specs.World.{Node, wallet_of}
-use Rattle.world_rules.specs.Events.{Event, Other}
-use Rattle.world_rules.specs.Orders.{node_does}
-use Rattle.world_rules.specs.OrderEvents.{event_of}
-use Rattle.world_rules.specs.Steps.{without_offers}
-use Rattle.node_replies.specs.declared.given.Given.{Given}
-use Rattle.node_replies.specs.Given.{IsGiven}
-use Rattle.node_replies.specs.declared.order.WalletOrder.{WalletOrder}
-use Rattle.node_replies.specs.declared.order.WatcherOrder.{WatcherOrder}
-use Rattle.node_replies.specs.declared.order.OperatorOrder.{OperatorOrder}
+use Rattle.world_rules.specs.{World.{Node, wallet_of}, Events.{Event, Other}, Orders.{node_does}, OrderEvents.{event_of}, Steps.{without_offers}}
+use Rattle.node_replies.specs.{declared.given.Given.{Given}, Given.{IsGiven}, declared.order.WalletOrder.{WalletOrder}, declared.order.WatcherOrder.{WatcherOrder}, declared.order.OperatorOrder.{OperatorOrder}}
 use Rattle.node_replies.specs.declared.order.NodeOrder.{NodeOrder}
 use Rattle.world_nodes.specs.Cuts.{is_kept, is_stopped, kept_record}
-use Rattle.world_trace.specs.declared.event.LineEvent.{LineEvent}
-use Rattle.world_trace.specs.Events.{IsEvent}
+use Rattle.world_trace.specs.{declared.event.LineEvent.{LineEvent}, Events.{IsEvent}}
 
 -- a leaf of wallet n binds the body that was found, where one was
 abbrev pub bound_event : ℕ → Option Body → LineEvent

@@ -3,8 +3,7 @@ use Rattle.std.specs.Prelude.{ℕ, ◌==◌, if◌then◌else◌, nat_lt, List, 
 use Rattle.std.specs.Int.{w32}
 use Rattle.std.specs.Result.{result_ok}
 use Rattle.plasma_base.specs.Fields.{field_at}
-use Rattle.plasma_tx.specs.declared.body.Body.{Body}
-use Rattle.plasma_tx.specs.Spelling.{body_in}
+use Rattle.plasma_tx.specs.{declared.body.Body.{Body}, Spelling.{body_in}}
 
 -- the body that bytes begin with, whatever its tag is
 abbrev pub body_found : List ℕ → Option Body

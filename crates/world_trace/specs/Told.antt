@@ -1,16 +1,9 @@
 -- How an order's event is told: by the answer and the bytes that it gave, or by the record that a crash left of it.
 use Rattle.std.specs.Prelude.{◌≡◌, ℕ, List, length}
-use Rattle.node_replies.specs.declared.reply.Reply.{Reply}
+use Rattle.node_replies.specs.{declared.reply.Reply.{Reply}, declared.given.Given.{Given}, declared.order.WalletOrder.{WalletOrder}, declared.order.WatcherOrder.{WatcherOrder}, declared.order.OperatorOrder.{OperatorOrder}}
 use Rattle.world_rules.specs.OrderEvents.{bundle_read}
-use Rattle.node_replies.specs.declared.given.Given.{Given}
-use Rattle.node_replies.specs.declared.order.WalletOrder.{WalletOrder}
-use Rattle.node_replies.specs.declared.order.WatcherOrder.{WatcherOrder}
-use Rattle.node_replies.specs.declared.order.OperatorOrder.{OperatorOrder}
 use Rattle.node_replies.specs.declared.order.NodeOrder.{NodeOrder}
-use Rattle.world_trace.specs.declared.event.LineEvent.{LineEvent}
-use Rattle.world_trace.specs.Events.{IsWatch}
-use Rattle.world_trace.specs.Orders.{bound_event}
-use Rattle.world_trace.specs.Reading.{body_found, message_in, leaf_at_end}
+use Rattle.world_trace.specs.{declared.event.LineEvent.{LineEvent}, Events.{IsWatch}, Orders.{bound_event}, Reading.{body_found, message_in, leaf_at_end}}
 
 -- of a wallet's order but a watch, by its answer and the bytes that it made
 abbrev pub wallet_told : ℕ → WalletOrder → Reply → List ℕ → LineEvent

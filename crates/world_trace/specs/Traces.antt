@@ -3,12 +3,8 @@ use Rattle.std.specs.Prelude.{◌≡◌, ℕ, List, [], map, reverse, Option, So
 use Rattle.std.specs.Option.{ForSome}
 use Rattle.plasma_tx.specs.Shown.{Tests, Rules}
 use Rattle.world_rules.specs.Events.{Event, wallets}
-use Rattle.coin_verdicts.specs.declared.fact.Fact.{Fact}
-use Rattle.coin_verdicts.specs.declared.wallet.NamedWallet.{NamedWallet}
-use Rattle.coin_verdicts.specs.Facts.{AreFacts}
-use Rattle.trace_exhibits.specs.Lines.{read_of}
-use Rattle.trace_exhibits.specs.Findings.{HasDigest as IsFoundBy, Finds}
-use Rattle.trace_exhibits.specs.declared.findings.Findings.{Findings}
+use Rattle.coin_verdicts.specs.{declared.fact.Fact.{Fact}, declared.wallet.NamedWallet.{NamedWallet}, Facts.{AreFacts}}
+use Rattle.trace_exhibits.specs.{Lines.{read_of}, Findings.{HasDigest as IsFoundBy, Finds}, declared.findings.Findings.{Findings}}
 
 -- the facts of the lines and the declared wallets, the oldest first; and, once there is a line, what lines show
 pub record TraceState : Type 0 where
