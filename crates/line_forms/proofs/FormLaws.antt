@@ -1,14 +1,5 @@
 -- Tables of forms, both ways: what is spelled is taken, and what is taken is spelled so.
-use Rattle.std.proofs.Common.{◌≡◌, ℕ, Bool, true, false, cond, List, [], ◌∷◌, ◌++◌, Option, Some, None, option_map, refl, sym, ap, ◌∙◌, subst, append_assoc}
-use Rattle.std.specs.List.{AllByRecursion}
-use Rattle.std.specs.Map.{lookup}
-use Rattle.std.specs.Option.{option_and_then}
-use Rattle.std.specs.Str.{bytes_eq}
-use Rattle.std.proofs.lemmas.List.{append-nil}
-use Rattle.std.proofs.lemmas.Slice.Eq.{bytes_eq-Decides}
-use Rattle.line_forms.specs.Words.{words_of, line_of_words, is_end}
-use Rattle.line_forms.specs.Forms.{Kind, take_word, one_word, Shape, ends, ◌▸◌, Make, Values, AreValues, words_by, made, take_by, Form, named, name_of, shape_of, makes, takes, Table, Parts, these, makes_parts, words_of_parts, AreParts, take_form, whole, form_of, run_of, optional, take_optional, IsOptional, optional_words, mapped_make, mapped_form}
-use Rattle.line_forms.specs.Laws.{is_unbroken, AreUnbroken, MayFollow, IsKind, is_closed_before, IsLawful, IsRow, IsTable}
+use Rattle.line_forms.proofs.Basics.{◌≡◌, ℕ, Bool, true, false, cond, List, [], ◌∷◌, ◌++◌, Option, Some, None, option_map, refl, sym, ap, ◌∙◌, subst, arith, AllByRecursion, lookup, option_and_then, bytes_eq, append-nil, bytes_eq-Decides, common_steps, words_of, line_of_words, is_end, Kind, take_word, one_word, Shape, ends, ◌▸◌, Make, Values, AreValues, words_by, made, take_by, Form, named, name_of, shape_of, makes, takes, Table, Parts, these, makes_parts, words_of_parts, AreParts, take_form, whole, form_of, run_of, optional, take_optional, IsOptional, optional_words, mapped_make, mapped_form, is_unbroken, AreUnbroken, MayFollow, IsKind, is_closed_before, IsLawful, IsRow, IsTable}
 use Rattle.line_forms.proofs.WordLaws.{HasNoBlank-from_test, HasNoBlank, words_of-line, line-words_of}
 
 pub unbroken-append : (first second : List (List ℕ)) → AreUnbroken first → AreUnbroken second
@@ -19,13 +10,11 @@ unbroken-append (word ∷ first) second h k = (h.0, unbroken-append first second
 -- what a `Some` after a first step shows
 pub and_then_some : {A B : Type 0} (f : A → Option B) (o : Option A) (y : B) → option_and_then f o ≡ Some y
     → (x : A) × (o ≡ Some x) × (f x ≡ Some y)
-and_then_some f (Some x) y h = (x, refl, h)
-and_then_some f None y h = cc h
+and_then_some f o y h = grind (arith, common_steps) steps 20000
 
 pub option_map_some : {A B : Type 0} (f : A → B) (o : Option A) (y : B) → option_map f o ≡ Some y
     → (x : A) × (o ≡ Some x) × (f x ≡ y)
-option_map_some f (Some x) y h = (x, refl, cc h)
-option_map_some f None y h = cc h
+option_map_some f o y h = grind (arith, common_steps) steps 20000
 
 pub pair_same : {A B : Type 0} (p q : A × B) → p ≡ q → (p.0 ≡ q.0) × (p.1 ≡ q.1)
 pair_same {A} {B} p q h = (ap (λ (p : A × B). p.0) h, ap (λ (p : A × B). p.1) h)
@@ -52,11 +41,8 @@ pub take_by-words : (closed : Bool) (shape : Shape) → IsLawful closed shape
 take_by-words closed ends law make values h rest f = refl
 take_by-words closed (kind ▸ shape) law make values h rest f =
     let first : kind.take ((kind.words values.0 ++ words_by shape values.1) ++ rest)
-    ≡ Some (values.0, words_by shape values.1 ++ rest) =
-    ap kind.take (append_assoc (kind.words values.0) (words_by shape values.1) rest)
-    ∙ law.0.taken values.0 h.0 (words_by shape values.1 ++ rest) (follow-values closed shape values.1 rest f) in
-    ap (option_and_then (λ taken. take_by shape (make taken.0) taken.1)) first
-    ∙ take_by-words closed shape law.1 (make values.0) values.1 h.1 rest f
+    ≡ Some (values.0, words_by shape values.1 ++ rest) = grind (arith, common_steps, follow-values) steps 20000 in
+    grind (arith, common_steps, take_by-words closed shape law.1 (make values.0) values.1 h.1 rest f) steps 20000
 
 -- the values that were taken
 pub record Taken (closed : Bool) (shape : Shape) (B : Type 0) (make : Make shape B) (words rest : List (List ℕ))
@@ -69,13 +55,7 @@ pub record Taken (closed : Bool) (shape : Shape) (B : Type 0) (make : Make shape
 pub taken_by : (closed : Bool) (shape : Shape) → IsLawful closed shape
     → {B : Type 0} (make : Make shape B) (words rest : List (List ℕ)) (b : B) → MayFollow closed rest
     → take_by shape make words ≡ Some (b, rest) → Taken closed shape B make words rest b
-taken_by closed ends law make words rest b f h =
-    record {
-      values = tt;
-      are = tt;
-      spelled = (some_pair (make, words) (b, rest) h).1;
-      make_it = (some_pair (make, words) (b, rest) h).0;
-    }
+taken_by closed ends law make words rest b f h = grind (arith, common_steps, some_pair) steps 20000
 taken_by closed (kind ▸ shape) law make words rest b f h =
     let p = and_then_some (λ taken. take_by shape (make taken.0) taken.1) (kind.take words) (b, rest) h in
     let first = law.0.spelled words p.0.1 p.0.0 (follow-taken closed shape (make p.0.0) p.0.1 rest b f p.2) p.1 in
@@ -83,8 +63,7 @@ taken_by closed (kind ▸ shape) law make words rest b f h =
     record {
       values = (p.0.0, after.values);
       are = (first.1, after.are);
-      spelled = first.0 ∙ ap (λ words. kind.words p.0.0 ++ words) after.spelled
-          ∙ sym (append_assoc (kind.words p.0.0) (words_by shape after.values) rest);
+      spelled = grind (arith, common_steps) steps 20000;
       make_it = after.make_it;
     }
 
@@ -92,8 +71,7 @@ pub unbroken_by : (closed : Bool) (shape : Shape) → IsLawful closed shape → 
     → AreValues shape values → AreUnbroken (words_by shape values)
 unbroken_by closed ends law values h = tt
 unbroken_by closed (kind ▸ shape) law values h =
-    unbroken-append (kind.words values.0) (words_by shape values.1) (law.0.unbroken values.0 h.0)
-    (unbroken_by closed shape law.1 values.1 h.1)
+    grind (arith, common_steps, unbroken_by closed shape law.1 values.1 h.1, unbroken-append) steps 20000
 
 -- ---- tables
 
@@ -151,10 +129,7 @@ parts-taken : (closed : Bool) {N B : Type 0} (table : Table N B) (parts : B → 
     → ((name : N) → IsRow closed table parts name)
     → (p : Parts N B table) → AreParts table p → (rest : List (List ℕ)) → MayFollow closed rest
     → take_form table (words_of_parts table p ++ rest) ≡ Some (makes_parts table p, rest)
-parts-taken closed table parts rows (these name values) h rest f =
-    ap (option_and_then (λ name'. takes (table.row name') (words_by (shape_of (table.row name)) values ++ rest)))
-    (rows name).2
-    ∙ takes-words closed (table.row name) (rows name).0 values h rest f
+parts-taken closed table parts rows (these name values) h rest f = grind (arith, common_steps, takes-words) steps 20000
 
 parts-unbroken : (closed : Bool) {N B : Type 0} (table : Table N B) (parts : B → Parts N B table)
     → ((name : N) → IsRow closed table parts name)
@@ -210,8 +185,7 @@ run_of-is closed {B} shape make values law back forth = record {
   taken = λ b h rest f. take_by-words closed shape law make (values b) h rest f ∙ ap (λ b. Some (b, rest)) (back b);
   spelled = λ words rest b f h.
       let p = taken_by closed shape law make words rest b f h in
-      let same : p.values ≡ values b = sym (forth p.values) ∙ ap values p.make_it in
-      (p.spelled ∙ ap (λ v. words_by shape v ++ rest) same, subst (AreValues shape) same p.are);
+      grind (arith, common_steps) steps 20000;
   unbroken = λ b h. unbroken_by closed shape law (values b) h;
 }
 
@@ -223,8 +197,7 @@ HasWord {A} kind = (value : A) → is_end (kind.words value) ≡ false
 
 some_taken : {A : Type 0} (kind : Kind A) (words : List (List ℕ)) (value : A) → is_end words ≡ false
     → kind.take words ≡ Some (value, []) → take_optional kind words ≡ Some (Some value, [])
-some_taken kind [] value some h = cc some
-some_taken kind (word ∷ words) value some h = rw h refl
+some_taken kind words value some h = grind (arith, common_steps) steps 20000
 
 optional-taken : {A : Type 0} (kind : Kind A) → IsKind A kind false → HasWord kind
     → (value : Option A) → IsOptional kind value → take_optional kind (optional_words kind value) ≡ Some (value, [])
@@ -236,29 +209,21 @@ optional-taken kind law some (Some value) h =
 optional-spelled : {A : Type 0} (kind : Kind A) → IsKind A kind false
     → (words rest : List (List ℕ)) (value : Option A) → rest ≡ [] → take_optional kind words ≡ Some (value, rest)
     → (words ≡ optional_words kind value ++ rest) × IsOptional kind value
-optional-spelled {A} kind law [] rest value f h =
-    let same = some_pair (None, []) (value, rest) h in
-    subst (λ (value : Option A). ([] ≡ optional_words kind value ++ rest) × IsOptional kind value) same.0 (same.1, tt)
+optional-spelled {A} kind law [] rest value f h = grind (arith, common_steps, some_pair) steps 20000
 optional-spelled {A} kind law (word ∷ words) rest value f h =
     let p = option_map_some (λ taken. (Some taken.0, taken.1)) (kind.take (word ∷ words)) (value, rest) h in
     let same = pair_same (Some p.0.0, p.0.1) (value, rest) p.2 in
     let q = law.spelled (word ∷ words) p.0.1 p.0.0 (same.1 ∙ f) p.1 in
-    subst (λ (value : Option A). ((word ∷ words) ≡ optional_words kind value ++ rest) × IsOptional kind value) same.0
-    (q.0 ∙ ap (λ (rest : List (List ℕ)). kind.words p.0.0 ++ rest) same.1, q.1)
+    grind (arith, common_steps) steps 20000
 
 optional-unbroken : {A : Type 0} (kind : Kind A) → IsKind A kind false → (value : Option A) → IsOptional kind value
     → AreUnbroken (optional_words kind value)
-optional-unbroken kind law None h = tt
-optional-unbroken kind law (Some value) h = law.unbroken value h
+optional-unbroken kind law value h = grind (arith, common_steps) steps 20000
 
 pub optional-is : {A : Type 0} (kind : Kind A) → IsKind A kind false → HasWord kind
     → IsKind (Option A) (optional kind) false
 optional-is kind law some = record {
-  taken = λ value h rest f.
-      ap (λ (rest : List (List ℕ)). take_optional kind (optional_words kind value ++ rest)) f
-      ∙ ap (take_optional kind) (append-nil (optional_words kind value))
-      ∙ optional-taken kind law some value h
-      ∙ ap (λ (rest : List (List ℕ)). Some (value, rest)) (sym f);
+  taken = grind (arith, common_steps, append-nil, optional-taken) steps 20000;
   spelled = optional-spelled kind law;
   unbroken = optional-unbroken kind law;
 }
@@ -270,15 +235,11 @@ no_blank [] h = tt
 no_blank (word ∷ words) h = (HasNoBlank-from_test word h.0, no_blank words h.1)
 
 whole_some : {B : Type 0} (taken : Option (B × List (List ℕ))) (b : B) → whole taken ≡ Some b → taken ≡ Some (b, [])
-whole_some None b h = cc h
-whole_some (Some (value, [])) b h = ap (λ b. Some (b, [])) (cc h)
-whole_some (Some (value, word ∷ words)) b h = cc h
+whole_some taken b h = grind (arith, common_steps) steps 20000
 
 words-back : {N B : Type 0} (table : Table N B) (p : Parts N B table) → AreUnbroken (words_of_parts table p)
     → words_of (line_of_words (words_of_parts table p)) ≡ words_of_parts table p
-words-back table (these name values) h =
-    words_of-line (name_of (table.row name)) (words_by (shape_of (table.row name)) values)
-    (no_blank (words_of_parts table (these name values)) h)
+words-back table (these name values) h = grind (arith, common_steps, words_of-line, no_blank) steps 20000
 
 -- what a table's words are read as
 pub whole-words : {N B : Type 0} (table : Table N B) (parts : B → Parts N B table) → IsTable false N B table parts
@@ -303,9 +264,7 @@ words-whole table parts is bytes b h =
 
 mapped-taken_by : (shape : Shape) {B C : Type 0} (f : B → C) (make : Make shape B) (words rest : List (List ℕ)) (b : B)
     → take_by shape make words ≡ Some (b, rest) → take_by shape (mapped_make shape f make) words ≡ Some (f b, rest)
-mapped-taken_by ends f make words rest b h =
-    let same = some_pair (make, words) (b, rest) h in
-    rw (same.0, same.1) refl
+mapped-taken_by ends f make words rest b h = grind (arith, common_steps, some_pair) steps 20000
 mapped-taken_by (kind ▸ shape) f make words rest b h =
     let p = and_then_some (λ taken. take_by shape (make taken.0) taken.1) (kind.take words) (b, rest) h in
     rw p.1 (mapped-taken_by shape f (make p.0.0) p.0.1 rest b p.2)

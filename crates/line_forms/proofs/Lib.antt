@@ -1,3 +1,4 @@
+pub mod Basics
 pub mod WordLaws
 pub mod NumberLaws
 pub mod NameLaws

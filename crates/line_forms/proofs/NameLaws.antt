@@ -1,23 +1,18 @@
 -- A table of names is searched row by row.
-use Rattle.std.proofs.Common.{◌≡◌, ℕ, zero, suc, ◌+◌, ◌<◌, Bool, true, false, cond, List, [], ◌∷◌, ◌++◌, length, map, take, get_or, Option, Some, None, option_map, refl, add-one, arith}
+use Rattle.line_forms.proofs.Basics.{◌≡◌, ℕ, zero, suc, ◌+◌, ◌<◌, Bool, true, false, cond, List, [], ◌∷◌, ◌++◌, length, map, take, get_or, Option, Some, None, option_map, refl, add-one, arith, lookup, common_steps, rows_of}
 use Rattle.std.specs.Borrow.{Bor}
-use Rattle.std.specs.Map.{lookup}
-use Rattle.line_forms.specs.Names.{rows_of}
 
 -- no row had the name before
 pub none_first : {T : Type 0} (b : Bool) (value : T) (rest : Option T) → cond b (Some value) rest ≡ None
     → (b ≡ false) × (rest ≡ None)
-none_first true value rest h = cc h
-none_first false value rest h = (refl, h)
+none_first b value rest h = grind (arith, common_steps) steps 20000
 
 pub named-found : {T : Type 0} (test : List ℕ → Bool) (table : List (Bor (List ℕ) × T)) (i : ℕ)
     (row d : Bor (List ℕ) × T) → i < length table
     → row ≡ get_or table i d → lookup test (rows_of (take i table)) ≡ None → test row.0.now ≡ true
     → lookup test (rows_of table) ≡ Some row.1
 named-found test [] i row d lt e h is = absurd (omega arith)
-named-found test (first ∷ table) zero row d lt e h is =
-    let here : test first.0.now ≡ true = rw e at is in
-    rw (here, e) refl
+named-found test (first ∷ table) zero row d lt e h is = grind (arith, common_steps) steps 20000
 named-found test (first ∷ table) (suc i) row d lt e h is =
     let p = none_first (test first.0.now) first.1 (lookup test (rows_of (take i table))) h in
     rw p.0 (named-found test table i row d (omega arith) e p.1 is)
@@ -27,9 +22,7 @@ named-suc : {T : Type 0} (test : List ℕ → Bool) (table : List (Bor (List ℕ
     → row ≡ get_or table i d → lookup test (rows_of (take i table)) ≡ None → test row.0.now ≡ false
     → lookup test (rows_of (take (suc i) table)) ≡ None
 named-suc test [] i row d lt e h is = absurd (omega arith)
-named-suc test (first ∷ table) zero row d lt e h is =
-    let here : test first.0.now ≡ false = rw e at is in
-    rw here refl
+named-suc test (first ∷ table) zero row d lt e h is = grind (arith, common_steps) steps 20000
 named-suc test (first ∷ table) (suc i) row d lt e h is =
     let p = none_first (test first.0.now) first.1 (lookup test (rows_of (take i table))) h in
     rw p.0 (named-suc test table i row d (omega arith) e p.1 is)
@@ -64,10 +57,4 @@ lookup-after test (row ∷ first) second h =
 pub lookup-mapped : {K X Y : Type 0} (test : K → Bool) (f : X → Y) (rows : List (K × X))
     → lookup test (map (λ (row : K × X). (row.0, f row.1)) rows) ≡ option_map f (lookup test rows)
 lookup-mapped test f [] = refl
-lookup-mapped {K} {X} {Y} test f (row ∷ rows) =
-    elim (test row.0) as
-    (λ b. cond b (Some (f row.1)) (lookup test (map (λ (row : K × X). (row.0, f row.1)) rows))
-    ≡ option_map f (cond b (Some row.1) (lookup test rows))) [
-      | true ↦ refl
-      | false ↦ lookup-mapped test f rows
-    ]
+lookup-mapped {K} {X} {Y} test f (row ∷ rows) = grind (arith, common_steps, lookup-mapped test f rows) steps 20000

@@ -1,19 +1,11 @@
 -- Numbers and their words, both ways.
-use Rattle.std.proofs.Common.{◌≡◌, ℕ, zero, suc, append_assoc, add-one, ◌+◌, ◌-◌, ◌*◌, ◌/◌, ◌%◌, ◌^◌, ◌<◌, ◌≤◌, ◌==◌, Bool, true, false, not, ◌&&◌, ltb, List, [], ◌∷◌, ◌++◌, length, take, drop, set, get_or, Some, None, refl, sym, ap, ◌∙◌, arith, rules, lit<}
-use Rattle.std.specs.Char.{is_ascii_digit}
+use Rattle.line_forms.proofs.Basics.{◌≡◌, ℕ, zero, suc, ◌+◌, ◌-◌, ◌*◌, ◌/◌, ◌%◌, ◌^◌, ◌<◌, ◌≤◌, Bool, true, false, ◌&&◌, ltb, List, ◌++◌, length, take, drop, set, get_or, Some, None, refl, sym, arith, rules, lit<, is_ascii_digit, decimal, list_all, digits_value, and_parts, ltb-true, lt-ltb, le-ltb, ne_eqb, eq-eqb, drop-set, length-drop, length-set, take_all, cond_some, common_steps, is_decimal, number_in, number_text}
 use Rattle.std.specs.Int.{IsInRange}
-use Rattle.std.specs.Fmt.{decimal}
-use Rattle.std.specs.List.{list_all}
-use Rattle.std.specs.Str.Parse.{digits_value}
-use Rattle.std.proofs.lemmas.Bool.{and_parts, ltb-true, lt-ltb, le-ltb, ne_eqb, eq-eqb}
 use Rattle.std.proofs.lemmas.Fmt.{decimal_digit, decimal_step, decimal_nonempty, first_decimal, digits_decimal, digits_value-decimal, decimal-digits_value}
 use Rattle.std.proofs.lemmas.Int.Digits.{digits_value_more}
-use Rattle.std.proofs.lemmas.List.{drop-set, length-drop, length-set, take_all}
-use Rattle.std.proofs.lemmas.Option.{cond_some}
 use Rattle.std.proofs.lemmas.Str.{digit_value_digit}
 use Rattle.std.proofs.lemmas.Str.Parse.{IsDigitsTest, IsNumeralModel, numerals_by_value, digit_at, digits_value-take-le}
 use Rattle.std.proofs.Math.Nat.{pow-suc}
-use Rattle.line_forms.specs.Tokens.{is_decimal, number_in, number_text}
 
 -- ---- reading
 
@@ -22,10 +14,7 @@ and_true b h = rw h refl
 
 -- decimal words are digits
 digits-decimal : (word : List ℕ) → is_decimal word ≡ true → list_all is_ascii_digit word ≡ true
-digits-decimal [] h = refl
-digits-decimal (digit ∷ []) h = and_true _ h
-digits-decimal (first ∷ second ∷ rest) h =
-    (and_parts (not (first == 48)) (list_all is_ascii_digit (first ∷ second ∷ rest)) h).1
+digits-decimal word h = grind (arith, common_steps, and_true, and_parts) steps 20000
 
 tells_digits : IsDigitsTest (λ word. list_all is_ascii_digit word ≡ true)
 tells_digits = search rules
@@ -42,8 +31,7 @@ pub value-more : (word : List ℕ) (i value next : ℕ) → is_decimal word ≡ 
     → value ≡ digits_value 10 (take i word) → next ≡ value * 10 + (get_or word i 0 - 48)
     → next ≡ digits_value 10 (take (i + 1) word)
 value-more word i value next h lt e n =
-    let digit = digit_value_digit (get_or word i 0) (digit-decimal word i h lt) in
-    omega (arith, digits_value_more 10 word i lt, digit, e, n)
+    grind (arith, common_steps, digit_value_digit, digit-decimal, digits_value_more) steps 20000
 
 pub number_in-other : (word : List ℕ) → is_decimal word ≡ false → number_in word ≡ None
 unfolding number_in
@@ -62,10 +50,7 @@ number_in-large word i value next h lt e n large =
 pub number_in-found : (word : List ℕ) (i value : ℕ) → is_decimal word ≡ true → length word ≤ i
     → value ≡ digits_value 10 (take i word) → value < 2 ^ 64 → number_in word ≡ Some value
 unfolding number_in
-number_in-found word i value h end e small =
-    let whole : value ≡ digits_value 10 word = e ∙ ap (digits_value 10) (take_all i word end) in
-    let lt : digits_value 10 word < 2 ^ 64 = omega arith in
-    rw (h, lt-ltb _ _ lt) (ap Some (sym whole))
+number_in-found word i value h end e small = grind (arith, common_steps, take_all, lt-ltb) steps 20000
 
 -- ---- writing
 
@@ -75,8 +60,7 @@ pub text-more : (value rest start next : ℕ) (digits : List ℕ) → 10 ≤ res
     → decimal value ≡ decimal rest ++ drop (start + 1) digits
     → decimal value ≡ decimal (rest / 10) ++ drop (next + 1) (set digits start (48 + rest % 10))
 text-more value rest start next digits big small lt e text =
-    rw (e, drop-set digits start (48 + rest % 10) lt, text, decimal_step rest big small)
-    (append_assoc (decimal (rest / 10)) ((48 + rest % 10) ∷ []) (drop (start + 1) digits))
+    grind (arith, common_steps, drop-set, decimal_step) steps 20000
 
 -- the first digit goes before the others, and the text is there
 pub text-first : (value rest start room : ℕ) (digits : List ℕ) → rest < 10 → start < length digits
@@ -85,20 +69,14 @@ pub text-first : (value rest start room : ℕ) (digits : List ℕ) → rest < 10
     → take (room - start) (drop start (set digits start (48 + rest))) ≡ number_text value
 unfolding number_text
 text-first value rest start room digits small lt len text =
-    let written = set digits start (48 + rest) in
-    let all : take (room - start) (drop start written) ≡ drop start written =
-    take_all _ (drop start written) (omega (arith, length-drop start written, length-set digits start (48 + rest))) in
-    rw (all, drop-set digits start (48 + rest) lt, text, decimal_digit rest small) refl
+    grind (arith, common_steps, take_all, length-drop, length-set, drop-set, decimal_digit) steps 20000
 
 -- there is room for the digits of the rest
 pub room-left : (rest start : ℕ) → 10 ≤ rest → rest < 10 ^ (start + 1) → 0 < start
-room-left rest zero big room = absurd (omega arith)
-room-left rest (suc start) big room = omega arith
+room-left rest start big room = grind (arith, common_steps) steps 20000
 
 pub room-more : (rest start next : ℕ) → next + 1 ≡ start → rest < 10 ^ (start + 1) → rest / 10 < 10 ^ (next + 1)
-room-more rest start next e room =
-    let p : 10 ^ (start + 1) ≡ 10 ^ (next + 1) * 10 = rw (← e, add-one (next + 1)) (pow-suc 10 (next + 1)) in
-    omega arith
+room-more rest start next e room = grind (arith, common_steps, pow-suc) steps 20000
 
 -- ---- both ways
 
@@ -106,17 +84,12 @@ room-more rest start next e room =
 is_decimal-digits : (word : List ℕ) → list_all is_ascii_digit word ≡ true → 0 < length word
     → (2 ≤ length word → 48 < get_or word 0 0)
     → is_decimal word ≡ true
-is_decimal-digits [] digits some first = absurd (omega arith)
-is_decimal-digits (digit ∷ []) digits some first = (and_parts (is_ascii_digit digit) true digits).0
-is_decimal-digits (digit ∷ second ∷ rest) digits some first =
-    let above : 48 < digit = first (omega arith) in
-    rw (ne_eqb digit 48 (λ e. absurd (omega arith)), digits) refl
+is_decimal-digits word digits some first = grind (arith, common_steps, and_parts, ne_eqb) steps 20000
 
 is_decimal-decimal : (n : ℕ) → n < 2 ^ 64 → is_decimal (decimal n) ≡ true
 is_decimal-decimal zero lt = rw (decimal_digit 0 (lit< tt)) refl
 is_decimal-decimal (suc n) lt =
-    is_decimal-digits (decimal (suc n)) (digits_decimal own (suc n) lt) (decimal_nonempty (suc n) lt)
-    (λ _. first_decimal (suc n) (omega arith) lt)
+    grind (arith, common_steps, is_decimal-digits, digits_decimal, own, decimal_nonempty, first_decimal) steps 20000
 
 -- a printed number is read back
 pub number_in-text : (n : ℕ) → n < 2 ^ 64 → number_in (number_text n) ≡ Some n
@@ -125,17 +98,11 @@ number_in-text n lt =
     rw (is_decimal-decimal n lt, digits_value-decimal own n lt, lt-ltb n (2 ^ 64) lt) refl
 
 some-decimal : (word : List ℕ) → is_decimal word ≡ true → 0 < length word
-some-decimal [] h = cc h
-some-decimal (digit ∷ rest) h = omega arith
+some-decimal word h = grind (arith, common_steps) steps 20000
 
 -- a zero stands alone
 zero-decimal : (word : List ℕ) → is_decimal word ≡ true → get_or word 0 0 ≡ 48 → length word ≡ 1
-zero-decimal [] h e = cc h
-zero-decimal (digit ∷ []) h e = refl
-zero-decimal (first ∷ second ∷ rest) h e =
-    let p = and_parts (not (first == 48)) (list_all is_ascii_digit (first ∷ second ∷ rest)) h in
-    let no : false ≡ true = rw (e, eq-eqb 48 48 refl) at p.0 in
-    cc no
+zero-decimal word h e = grind (arith, common_steps, and_parts, eq-eqb) steps 20000
 
 -- a number has one word
 pub number_text-in : (word : List ℕ) (n : ℕ) → number_in word ≡ Some n → (word ≡ number_text n) × (n < 2 ^ 64)

@@ -1,39 +1,22 @@
 -- The kinds of token, both ways.
-use Rattle.std.proofs.Common.{◌≡◌, ℕ, ◌^◌, ◌<◌, ◌≤◌, ◌==◌, Bool, true, false, not, ◌&&◌, ◌||◌, cond, nat_le, List, [], ◌∷◌, length, codes, Option, Some, None, option_map, refl, subst, arith}
-use Rattle.std.specs.Char.{is_ascii_digit}
-use Rattle.std.specs.List.{list_all}
-use Rattle.std.specs.Option.{option_or}
-use Rattle.std.specs.Str.{bytes_eq}
-use Rattle.std.proofs.lemmas.Bool.{and_parts, eqb-true, leb-true, le-leb, ne_eqb, eq-eqb}
-use Rattle.std.proofs.lemmas.Option.{cond_some}
-use Rattle.std.proofs.lemmas.Slice.Eq.{bytes_eq-Decides}
+use Rattle.line_forms.proofs.Basics.{◌≡◌, ℕ, ◌^◌, ◌<◌, ◌≤◌, ◌==◌, Bool, true, false, not, ◌&&◌, ◌||◌, cond, nat_le, List, [], ◌∷◌, length, codes, Option, Some, None, option_map, refl, subst, arith, is_ascii_digit, list_all, option_or, bytes_eq, and_parts, eqb-true, leb-true, le-leb, ne_eqb, eq-eqb, cond_some, bytes_eq-Decides, common_steps, is_unbroken, IsKind, IsRow, IsMade, only_if, IsNumber, IsNumberWithin, IsName, IsDeclaredName, AreBytes, AreBytesOf, AreSomeBytes, IsHexOrName, IsHexOrItem, IsShown, number, number_within, name, hex, hex_of, some_bytes, hex_or_name, bytes, shown, outcome, outcomes, outcome_parts, optional_number, declared_name, declared_name_in, number_in, number_text, number_within_in, name_in, is_letter, hex_of_in, some_bytes_in, hex_or_name_in, hex_or_name_text, bytes_in, item_in, hex_or_item_text, shown_in, shown_text}
 use Rattle.plasma_base.specs.HexText.{hex_text, hex_in, digits_in, pair_in, lower_digit_in}
 use Rattle.plasma_base.proofs.HexLaws.{hex_in-hex_text, hex_text-hex_in}
-use Rattle.line_forms.specs.declared.tokens.TheConstants.{NAME_BYTES}
 use Rattle.line_forms.specs.declared.tokens.HexOrName.{HexOrName}
 use Rattle.line_forms.specs.declared.tokens.HexOrItem.{HexOrItem}
 use Rattle.line_forms.specs.declared.tokens.ShownToken.{ShownToken}
 use Rattle.line_forms.specs.declared.tokens.OutcomeToken.{OutcomeToken}
-use Rattle.line_forms.specs.declared.tokens.OutcomeToken.TheVariants.{Old}
 use Rattle.line_forms.specs.declared.tokens.OutcomeName.{OutcomeName}
-use Rattle.line_forms.specs.Laws.{is_unbroken, IsKind, IsRow, IsMade}
-use Rattle.line_forms.specs.Tokens.{only_if, IsNumber, IsNumberWithin, IsName, IsDeclaredName, AreBytes, AreBytesOf, AreSomeBytes, IsHexOrName, IsHexOrItem, IsShown, number, number_within, name, hex, hex_of, some_bytes, hex_or_name, bytes, shown, outcome, outcomes, outcome_parts, optional_number, declared_name, declared_name_in, number_in, number_text, number_within_in, name_in, is_name, is_letter, hex_of_in, some_bytes_in, hex_or_name_in, hex_or_name_text, bytes_in, item_in, hex_or_item_text, shown_in, shown_text}
 use Rattle.line_forms.proofs.NumberLaws.{number_in-text, number_text-in, digits-number_text}
 use Rattle.line_forms.proofs.FormLaws.{IsToken, one_word-is, form_of-is, optional-is, and_then_some, option_map_some}
 
 -- ---- words without a blank
 
 digit-not_blank : (byte : ℕ) → is_ascii_digit byte ≡ true → not (byte == 32) ≡ true
-digit-not_blank byte h =
-    let p = and_parts (nat_le 48 byte) (nat_le byte 57) h in
-    let above : 48 ≤ byte = leb-true _ _ p.0 in
-    rw (ne_eqb byte 32 (λ e. absurd (omega arith))) refl
+digit-not_blank byte h = grind (arith, common_steps, and_parts, leb-true, ne_eqb) steps 20000
 
 letter-not_blank : (byte : ℕ) → is_letter byte ≡ true → not (byte == 32) ≡ true
-letter-not_blank byte h =
-    let p = and_parts (nat_le 97 byte) (nat_le byte 122) h in
-    let above : 97 ≤ byte = leb-true _ _ p.0 in
-    rw (ne_eqb byte 32 (λ e. absurd (omega arith))) refl
+letter-not_blank byte h = grind (arith, common_steps, and_parts, leb-true, ne_eqb) steps 20000
 
 unbroken-digits : (word : List ℕ) → list_all is_ascii_digit word ≡ true → is_unbroken word ≡ true
 unbroken-digits [] h = refl
@@ -45,11 +28,7 @@ unbroken-number : (n : ℕ) → n < 2 ^ 64 → is_unbroken (number_text n) ≡ t
 unbroken-number n lt = unbroken-digits (number_text n) (digits-number_text n lt)
 
 letter_or_digit-not_blank : (byte : ℕ) → (is_letter byte || is_ascii_digit byte) ≡ true → not (byte == 32) ≡ true
-letter_or_digit-not_blank byte h =
-    elim (is_letter byte) as (λ b. is_letter byte ≡ b → (b || is_ascii_digit byte) ≡ true → not (byte == 32) ≡ true) [
-      | true ↦ λ e is. letter-not_blank byte e
-      | false ↦ λ e is. digit-not_blank byte is
-    ] refl h
+letter_or_digit-not_blank byte h = grind (arith, common_steps, letter-not_blank, digit-not_blank) steps 20000
 
 unbroken-rest : (word : List ℕ) → list_all (λ byte. is_letter byte || is_ascii_digit byte) word ≡ true
     → is_unbroken word ≡ true
@@ -60,17 +39,11 @@ unbroken-rest (byte ∷ word) h =
     rw (letter_or_digit-not_blank byte p.0, unbroken-rest word p.1) refl
 
 unbroken-name : (name : List ℕ) → IsName name → is_unbroken name ≡ true
-unbroken-name [] h = refl
-unbroken-name (first ∷ rest) h =
-    let all = λ (word : List ℕ). list_all (λ byte. is_letter byte || is_ascii_digit byte) word in
-    let p = and_parts (is_letter first) (all rest && nat_le (length (first ∷ rest)) NAME_BYTES) h in
-    let q = and_parts (all rest) (nat_le (length (first ∷ rest)) NAME_BYTES) p.1 in
-    rw (letter-not_blank first p.0, unbroken-rest rest q.0) refl
+unbroken-name name h = grind (arith, common_steps, and_parts, letter-not_blank, unbroken-rest) steps 20000
 
 -- a test that passed, and what follows it
 test_some : {A : Type 0} (b : Bool) (o : Option A) (y : A) → cond b o None ≡ Some y → (b ≡ true) × (o ≡ Some y)
-test_some true o y h = (refl, h)
-test_some false o y h = cc h
+test_some b o y h = grind (arith, common_steps) steps 20000
 
 hex_digit-not_blank : (byte value : ℕ) → lower_digit_in byte ≡ Some value → not (byte == 32) ≡ true
 hex_digit-not_blank byte value h =
@@ -83,22 +56,12 @@ unbroken-hex_digits (digit ∷ []) bytes h = cc h
 unbroken-hex_digits (high ∷ low ∷ rest) bytes h =
     let p = and_then_some _ (pair_in high low) bytes h in
     let q = and_then_some _ (digits_in rest) bytes p.2 in
-    let first = and_then_some _ (lower_digit_in high) p.0 p.1 in
-    let second = and_then_some _ (lower_digit_in low) p.0 first.2 in
-    rw (
-      hex_digit-not_blank high first.0 first.1,
-      hex_digit-not_blank low second.0 second.1,
-      unbroken-hex_digits rest q.0 q.1,
-    ) refl
+    grind (arith, common_steps, unbroken-hex_digits rest q.0 q.1, and_then_some, hex_digit-not_blank) steps 20000
 
 unbroken-hex_in : (text bytes : List ℕ) → hex_in text ≡ Some bytes → is_unbroken text ≡ true
 unfolding hex_in
-unbroken-hex_in [] bytes h = refl
-unbroken-hex_in (first ∷ []) bytes h = cc h
-unbroken-hex_in (first ∷ second ∷ digits) bytes h =
-    let p = test_some (first == 48 && second == 120) (digits_in digits) bytes h in
-    let parts = and_parts (first == 48) (second == 120) p.0 in
-    rw (eqb-true first 48 parts.0, eqb-true second 120 parts.1) (unbroken-hex_digits digits bytes p.1)
+unbroken-hex_in text bytes h =
+    grind (arith, common_steps, test_some, and_parts, eqb-true, unbroken-hex_digits) steps 20000
 
 unbroken-hex : (bytes : List ℕ) → AreBytes bytes → is_unbroken (hex_text bytes) ≡ true
 unbroken-hex bytes h = unbroken-hex_in (hex_text bytes) bytes (hex_in-hex_text bytes h)
@@ -106,8 +69,7 @@ unbroken-hex bytes h = unbroken-hex_in (hex_text bytes) bytes (hex_in-hex_text b
 -- ---- a token with a condition
 
 not_true : (b : Bool) → not b ≡ true → b ≡ false
-not_true true h = cc h
-not_true false h = refl
+not_true b h = grind (arith, common_steps) steps 20000
 
 -- a test tells whether a condition holds
 abbrev IsTest : {A : Type 0} → (A → Bool) → (A → Type 0) → Type 0
@@ -137,10 +99,7 @@ pub number-is : (closed : Bool) → IsKind ℕ number closed
 number-is = one_word-is IsNumber number_text number_in number-token
 
 within-test : (low high : ℕ) → IsTest (λ n. nat_le low n && nat_le n high) (λ n. (low ≤ n) × (n ≤ high))
-within-test low high n = (
-  (λ h. let parts = and_parts (nat_le low n) (nat_le n high) h in (leb-true _ _ parts.0, leb-true _ _ parts.1)),
-  (λ h. rw (le-leb low n h.0, le-leb n high h.1) refl),
-)
+within-test low high n = grind (arith, common_steps, and_parts, leb-true, le-leb) steps 20000
 
 number_within-token : (low high : ℕ) → IsToken ℕ (IsNumberWithin low high) number_text (number_within_in low high)
 unfolding number_within_in
@@ -157,9 +116,7 @@ name_in-text name h = rw h refl
 
 name_text-in : (word name : List ℕ) → name_in word ≡ Some name → (word ≡ name) × IsName name
 unfolding name_in
-name_text-in word name h =
-    let p = cond_some (is_name word) word name h in
-    (p.1, subst IsName p.1 p.0)
+name_text-in word name h = grind (arith, common_steps, cond_some) steps 20000
 
 name-token : IsToken (List ℕ) IsName (λ word. word) name_in
 name-token = record { read = name_in-text; one = name_text-in; unbroken = unbroken-name }
@@ -207,8 +164,7 @@ some_bytes-is = one_word-is _ hex_text _ some_bytes-token
 
 either_some : {A : Type 0} (first second : Option A) (y : A) → option_or first second ≡ Some y → (P : Type 0)
     → (first ≡ Some y → P) → (second ≡ Some y → P) → P
-either_some None second y h P one two = two h
-either_some (Some value) second y h P one two = one h
+either_some first second y h _ one two = grind (arith, common_steps) steps 20000
 
 -- a hex is no name
 name_in-hex : (content : List ℕ) → name_in (hex_text content) ≡ None
@@ -234,8 +190,7 @@ hex_or_name_text-in count word value h =
 
 unbroken-hex_or_name : (count : ℕ) (value : HexOrName) → IsHexOrName count value
     → is_unbroken (hex_or_name_text value) ≡ true
-unbroken-hex_or_name count (HexOrName.Hex bytes) h = unbroken-hex bytes h.0
-unbroken-hex_or_name count (HexOrName.Name word) h = unbroken-name word h
+unbroken-hex_or_name count value h = grind (arith, common_steps, unbroken-hex, unbroken-name) steps 20000
 
 pub hex_or_name-is : (count : ℕ) (closed : Bool) → IsKind HexOrName (hex_or_name count) closed
 hex_or_name-is count =
@@ -253,8 +208,7 @@ item_in-hex content = refl
 
 bytes_in-text : (value : HexOrItem) → IsHexOrItem value → bytes_in (hex_or_item_text value) ≡ Some value
 unfolding bytes_in
-bytes_in-text (HexOrItem.Hex bytes) h = rw (item_in-hex bytes, hex_in-hex_text bytes h) refl
-bytes_in-text (HexOrItem.Item line) h = rw (number_in-text line h) refl
+bytes_in-text value h = grind (arith, common_steps, item_in-hex, hex_in-hex_text, number_in-text) steps 20000
 
 item_text-in : (word : List ℕ) (n : ℕ) → item_in word ≡ Some n → (word ≡ 35 ∷ number_text n) × IsNumber n
 item_text-in [] n h = cc h
@@ -275,8 +229,7 @@ bytes_text-in word value h =
     subst Spells p.2 (hex_text-hex_in word p.0 p.1))
 
 unbroken-bytes : (value : HexOrItem) → IsHexOrItem value → is_unbroken (hex_or_item_text value) ≡ true
-unbroken-bytes (HexOrItem.Hex bytes) h = unbroken-hex bytes h
-unbroken-bytes (HexOrItem.Item line) h = unbroken-number line h
+unbroken-bytes value h = grind (arith, common_steps, unbroken-hex, unbroken-number) steps 20000
 
 pub bytes-is : (closed : Bool) → IsKind HexOrItem bytes closed
 bytes-is =
@@ -285,13 +238,11 @@ bytes-is =
 
 bytes-not_deposit : (value : HexOrItem) → bytes_eq (hex_or_item_text value) (codes "-") ≡ false
 unfolding hex_text
-bytes-not_deposit (HexOrItem.Hex content) = refl
-bytes-not_deposit (HexOrItem.Item line) = refl
+bytes-not_deposit value = grind (arith, common_steps) steps 20000
 
 shown_in-text : (value : ShownToken) → IsShown value → shown_in (shown_text value) ≡ Some value
 unfolding shown_in
-shown_in-text ShownToken.Deposit h = refl
-shown_in-text (ShownToken.Bytes value) h = rw (bytes-not_deposit value, bytes_in-text value h) refl
+shown_in-text value h = grind (arith, common_steps, bytes-not_deposit, bytes_in-text) steps 20000
 
 shown_text-in : (word : List ℕ) (value : ShownToken) → shown_in word ≡ Some value
     → (word ≡ shown_text value) × IsShown value
@@ -301,17 +252,14 @@ shown_text-in word value h =
     elim (bytes_eq word (codes "-")) as
     (λ t. bytes_eq word (codes "-") ≡ t
     → cond t (Some ShownToken.Deposit) (option_map ShownToken.Bytes (bytes_in word)) ≡ Some value → Spells value) [
-      | true ↦ λ e is.
-          let same : ShownToken.Deposit ≡ value = cc is in
-          subst Spells same ((bytes_eq-Decides word (codes "-")).0 e, tt)
+      | true ↦ grind (arith, common_steps, bytes_eq-Decides) steps 20000
       | false ↦ λ e is.
           let p = option_map_some ShownToken.Bytes (bytes_in word) value is in
           subst Spells p.2 (bytes_text-in word p.0 p.1)
     ] refl h
 
 unbroken-shown : (value : ShownToken) → IsShown value → is_unbroken (shown_text value) ≡ true
-unbroken-shown ShownToken.Deposit h = refl
-unbroken-shown (ShownToken.Bytes value) h = unbroken-bytes value h
+unbroken-shown value h = grind (arith, common_steps, unbroken-bytes) steps 20000
 
 pub shown-is : (closed : Bool) → IsKind ShownToken shown closed
 shown-is =
@@ -327,8 +275,7 @@ outcome-row closed OutcomeName.Old = search outcome_kinds
 outcome-row closed _ = search outcome_kinds
 
 outcome-made : (value : OutcomeToken) → IsMade outcomes outcome_parts value
-outcome-made Old = refl
-outcome-made _ = refl
+outcome-made value = grind (arith, common_steps) steps 20000
 
 pub outcome-is : (closed : Bool) → IsKind OutcomeToken outcome closed
 outcome-is closed =

@@ -1,5 +1,4 @@
-use Rattle.std.proofs.Common.{◌-◌, arith}
-use Rattle.line_forms.specs.Forms.{text_of}
+use Rattle.line_forms.proofs.Basics.{◌-◌, arith, text_of}
 use Rattle.line_forms.proofs.PrintLaws.{line-done, line-longer}
 use Rattle.line_forms.proofs.grammar.print.Goals as goal
 

@@ -1,5 +1,4 @@
-use Rattle.std.proofs.Common.{◌≡◌, Some, rules}
-use Rattle.line_forms.specs.Forms.{value_in}
+use Rattle.line_forms.proofs.Basics.{◌≡◌, Some, rules, value_in}
 use Rattle.line_forms.proofs.FormLaws.{words-whole}
 use Rattle.line_forms.proofs.grammar.read.Goals as goal
 

@@ -1,5 +1,4 @@
-use Rattle.std.proofs.Common.{rules, ◌≡◌, sym, true, false}
-use Rattle.std.specs.Str.{bytes_eq}
+use Rattle.line_forms.proofs.Basics.{rules, ◌≡◌, sym, true, false, bytes_eq}
 use Rattle.line_forms.proofs.NameLaws.{named-found, named-more}
 use Rattle.line_forms.proofs.names.named.Goals as goal
 

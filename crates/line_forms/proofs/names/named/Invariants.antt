@@ -1,7 +1,4 @@
-use Rattle.std.proofs.Common.{◌≡◌, None, take}
-use Rattle.std.specs.Map.{lookup}
-use Rattle.std.specs.Str.{bytes_eq}
-use Rattle.line_forms.specs.Names.{rows_of}
+use Rattle.line_forms.proofs.Basics.{◌≡◌, None, take, lookup, bytes_eq, rows_of}
 use Rattle.line_forms.proofs.names.named.Given as goal
 
 -- no row so far has the name

@@ -1,5 +1,4 @@
-use Rattle.std.proofs.Common.{◌≡◌, ◌^◌, ◌<◌, take}
-use Rattle.std.specs.Str.Parse.{digits_value}
+use Rattle.line_forms.proofs.Basics.{◌≡◌, ◌^◌, ◌<◌, take, digits_value}
 use Rattle.line_forms.proofs.numbers.number.Given as goal
 
 -- the value of the digits so far

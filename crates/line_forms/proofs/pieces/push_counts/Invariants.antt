@@ -1,6 +1,4 @@
-use Rattle.std.proofs.Common.{◌≡◌, ◌++◌, map, take}
-use Rattle.line_forms.specs.Words.{trailed}
-use Rattle.line_forms.specs.Tokens.{number_text}
+use Rattle.line_forms.proofs.Basics.{◌≡◌, ◌++◌, map, take, trailed, number_text}
 use Rattle.line_forms.proofs.pieces.push_counts.Given as goal
 
 -- the numbers so far stand at the end

@@ -1,6 +1,4 @@
-use Rattle.std.proofs.Common.{◌≡◌, ◌++◌, take}
-use Rattle.line_forms.specs.Words.{trailed}
-use Rattle.line_forms.specs.Pieces.{words_of_pieces}
+use Rattle.line_forms.proofs.Basics.{◌≡◌, ◌++◌, take, trailed, words_of_pieces}
 use Rattle.line_forms.proofs.pieces.push_pieces.Given as goal
 
 -- the words so far stand at the end

@@ -1,5 +1,4 @@
-use Rattle.std.proofs.Common.{◌≡◌, false, refl}
-use Rattle.line_forms.specs.Words.{is_end}
+use Rattle.line_forms.proofs.Basics.{◌≡◌, false, refl, is_end}
 use Rattle.line_forms.proofs.WordLaws.{is_end-words_of}
 use Rattle.line_forms.proofs.words.Words.is_empty.Goals as goal
 
