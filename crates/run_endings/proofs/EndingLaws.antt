@@ -1,14 +1,8 @@
 -- How a run ends whose text was written whole, or was stopped.
-use Rattle.std.proofs.Common.{◌≡◌, ℕ, List, [], ◌++◌, Option, refl, subst}
-use Rattle.std.specs.Prelude.{◌≢◌}
+use Rattle.run_endings.proofs.Words.{◌≡◌, ℕ, List, [], ◌++◌, Option, refl, arith, ◌≢◌, common_steps, Wrote, WroteFront, Status, ReadFault, WriteFault, NoMemory, status_of_refusal, IsDoneUnlessFailed, Output, Stops, EndsAs}
 use Rattle.std.proofs.lemmas.List.{append-nil}
 use Rattle.plasma_outside.specs.declared.sink.SinkRefusal.{SinkRefusal}
 use Rattle.plasma_outside.specs.declared.sink.SinkRefusal.TheVariants.{Failed, NoMemory as WantsMemory}
-use Rattle.streamed_lines.specs.Outside.{Wrote, WroteFront}
-use Rattle.run_endings.specs.declared.status.Status.{Status}
-use Rattle.run_endings.specs.declared.status.Status.TheVariants.{Done, Refused, Usage, BadLine, ReadFault, WriteFault, DeviceFault, NoMemory, TooLong, NotJournal, AlreadyMade}
-use Rattle.run_endings.specs.Statuses.{status_of_refusal, IsDoneUnlessFailed}
-use Rattle.run_endings.specs.Outputs.{Output, Stops, EndsAs}
 
 -- a text that was written whole ends a run with any status but one that stopped it
 pub ends-whole :
@@ -20,25 +14,15 @@ ends-whole output before after failed why wrote = by-status output.answers outpu
     stops : (answers last : List ℕ) (status : Status) → status ≢ ReadFault
         → Wrote before after (answers ++ last)
         → Stops (record { status = status; answers = answers; last = last }) before after failed
-    stops answers last status no_fault wrote = record {
-      front = record { front = answers ++ last; back = []; whole = append-nil (answers ++ last); wrote = wrote };
-      fault = λ is. absurd (no_fault is);
-    }
+    stops answers last status no_fault wrote = grind (arith, common_steps, append-nil) steps 20000
 
     by-status : (answers last : List ℕ) (status : Status) → (status ≡ ReadFault → failed)
         → Wrote before after (answers ++ last)
         → EndsAs (record { status = status; answers = answers; last = last }) status before after failed
-    by-status answers last Done why wrote = (refl, wrote)
-    by-status answers last Refused why wrote = (refl, wrote)
-    by-status answers last Usage why wrote = (refl, wrote)
-    by-status answers last BadLine why wrote = (refl, wrote)
     by-status answers last ReadFault why wrote = ((refl, wrote), why refl)
-    by-status answers last DeviceFault why wrote = (refl, wrote)
-    by-status answers last TooLong why wrote = (refl, wrote)
-    by-status answers last NotJournal why wrote = (refl, wrote)
-    by-status answers last AlreadyMade why wrote = (refl, wrote)
     by-status answers last WriteFault why wrote = stops answers last WriteFault (λ wrong. absurd (cc)) wrote
     by-status answers last NoMemory why wrote = stops answers last NoMemory (λ wrong. absurd (cc)) wrote
+    by-status answers last status why wrote = (refl, wrote)
 
 -- a run that was stopped
 pub ends-stopped :
@@ -57,14 +41,4 @@ stops-line status line before after no_fault front = record { front = front; fau
 -- a run whose output says that it was done, or what failed
 pub ends-done : (output : Output) (status : Status) (before after : Option (List ℕ)) (failed : Type 0)
     → IsDoneUnlessFailed output.status → EndsAs output status before after failed → IsDoneUnlessFailed status
-ends-done output Done before after failed is ends = tt
-ends-done output ReadFault before after failed is ends = tt
-ends-done output WriteFault before after failed is ends = tt
-ends-done output DeviceFault before after failed is ends = tt
-ends-done output NoMemory before after failed is ends = tt
-ends-done output Refused before after failed is ends = subst IsDoneUnlessFailed ends.0 is
-ends-done output Usage before after failed is ends = subst IsDoneUnlessFailed ends.0 is
-ends-done output BadLine before after failed is ends = subst IsDoneUnlessFailed ends.0 is
-ends-done output TooLong before after failed is ends = subst IsDoneUnlessFailed ends.0 is
-ends-done output NotJournal before after failed is ends = subst IsDoneUnlessFailed ends.0 is
-ends-done output AlreadyMade before after failed is ends = subst IsDoneUnlessFailed ends.0 is
+ends-done output status before after failed is ends = grind (arith, common_steps) steps 20000

@@ -1,10 +1,9 @@
 -- What the last text of a run, put behind its answers, says of its last take.
-use Rattle.std.proofs.Common.{◌≡◌, ℕ, Bool, true, false, List, [], ◌++◌, Option, Ok, refl, subst}
+use Rattle.run_endings.proofs.Words.{◌≡◌, ℕ, Bool, true, false, List, [], ◌++◌, Option, Ok, refl, subst, arith, common_steps, WroteFront}
 use Rattle.streamed_lines.specs.declared.ending.Ending.{Ending}
-use Rattle.streamed_lines.specs.declared.ending.Ending.TheVariants.{Complete, BadLine, ReadFault, TooLong, Ended}
+use Rattle.streamed_lines.specs.declared.ending.Ending.TheVariants.{ReadFault}
 use Rattle.streamed_lines.specs.declared.ending.Halt.{Halt}
 use Rattle.streamed_lines.specs.Streams.{Rules}
-use Rattle.streamed_lines.specs.Outside.{WroteFront}
 use Rattle.streamed_lines.specs.Prompt.{answers_so_far, AnswersPromptly}
 use Rattle.streamed_lines.specs.Reading.{is_read_fault, Answers}
 use Rattle.streamed_lines.proofs.PromptLaws.{prompt-more, fault-prompt}
@@ -14,11 +13,7 @@ use Rattle.run_endings.specs.Endings.{last_text, is_composed}
 -- a last line that is made for the run doesn't say that the reading failed
 pub composed-reads : (Reads : Bool → Type 0) (ending : Ending (List ℕ)) → is_composed ending ≡ true
     → Reads (is_read_fault (Ok ending)) → Reads false
-composed-reads Reads Complete wrong reads = reads
-composed-reads Reads (BadLine n) is reads = reads
-composed-reads Reads ReadFault wrong reads = absurd (cc (wrong))
-composed-reads Reads (TooLong n) is reads = reads
-composed-reads Reads (Ended n cause) is reads = reads
+composed-reads _ ending wrong reads = grind (arith, common_steps) steps 20000
 
 module _ {R W : Type 0} (rules : Rules R (List ℕ)) (first : R) (Ran : W → R → Type 0)
     (Halted : W → R → List ℕ → Halt (List ℕ) → Type 0) (left later taken after next : Option (List ℕ)) (answerer : W)
@@ -31,16 +26,10 @@ module _ {R W : Type 0} (rules : Rules R (List ℕ)) (first : R) (Ran : W → R 
       → WroteFront after next (text ++ last_text ending)
       → AnswersPromptly (answers_so_far rules first) left later failed taken next
   unfolding last_text
-  prompt-last Complete text last put answers prompt front =
-      prompt-more _ left later failed taken after next front.front prompt front.wrote last
-  prompt-last (BadLine n) text last put answers prompt front =
-      prompt-more _ left later failed taken after next front.front prompt front.wrote last
-  prompt-last (TooLong n) text last put answers prompt front =
-      prompt-more _ left later failed taken after next front.front prompt front.wrote last
-  prompt-last (Ended n cause) text last put answers prompt front =
-      prompt-more _ left later failed taken after next front.front prompt front.wrote last
   prompt-last ReadFault text last put answers prompt front =
       let none : text ≡ [] = put refl in
       fault-prompt rules first Ran Halted left later taken after answerer next failed
       (subst (λ t. Answers rules first Ran Halted left later taken after t ReadFault answerer) none answers)
       (subst (λ t. WroteFront after next (t ++ read_fault_text)) none front)
+  prompt-last ending text last put answers prompt front =
+      prompt-more _ left later failed taken after next front.front prompt front.wrote last

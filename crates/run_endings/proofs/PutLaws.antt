@@ -1,8 +1,6 @@
 -- What a sink took of a text that was put in two parts.
-use Rattle.std.proofs.Common.{◌++◌, ℕ, List, [], Option, Result, Ok, Err, OnOk, refl, sym, ap, ◌∙◌, append_assoc}
-use Rattle.std.specs.Prelude.{OnErr}
+use Rattle.run_endings.proofs.Words.{◌++◌, ℕ, List, [], Option, Result, Ok, Err, OnOk, refl, sym, ap, ◌∙◌, append_assoc, OnErr, Wrote, WroteFront}
 use Rattle.plasma_outside.specs.Outside.{Puts}
-use Rattle.streamed_lines.specs.Outside.{Wrote, WroteFront}
 use Rattle.streamed_lines.proofs.OutsideLaws.{wrote-none, wrote-more, wrote-put, front-put}
 
 -- nothing was written of a text
