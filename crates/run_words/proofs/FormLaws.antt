@@ -1,15 +1,6 @@
 -- Forms begin with one of the names, and the word after the name begins with no hyphen.
-use Rattle.std.proofs.Common.{◌≡◌, ℕ, ◌==◌, ◌||◌, Bool, true, false, if◌then◌else◌, List, [], ◌∷◌, Option, None, refl, ap, subst, map, sym, codes, true≢false, ◌≤◌, length, arith}
-use Rattle.std.specs.Prelude.{is_some, option_map}
-use Rattle.std.specs.List.{AllByRecursion, list_any}
-use Rattle.std.specs.Str.{bytes_eq}
+use Rattle.run_words.proofs.Basics.{◌≡◌, ℕ, ◌==◌, ◌||◌, Bool, true, false, if◌then◌else◌, List, [], ◌∷◌, Option, None, refl, ap, subst, map, sym, codes, true≢false, ◌≤◌, length, arith, is_some, option_map, AllByRecursion, list_any, bytes_eq, eqb-true, hex_in, number_in, hex_of_in, form_named, alone, init_form, init_wallet, init_operator, init_watcher, identity_in, make_form, verify_form, hss_form, hss_init, hss_sign, hss_verify, audit_form, Form, Replay, Brief, Wallet, Operator, Watcher, InitWatcher, Archive}
 use Rattle.std.proofs.lemmas.Slice.Eq.{bytes_eq-Decides}
-use Rattle.std.proofs.lemmas.Bool.{eqb-true}
-use Rattle.plasma_base.specs.HexText.{hex_in}
-use Rattle.line_forms.specs.Tokens.{number_in, hex_of_in}
-use Rattle.run_words.specs.Forms.{form_named, alone, init_form, init_wallet, init_operator, init_watcher, identity_in, make_form, verify_form, hss_form, hss_init, hss_sign, hss_verify, audit_form}
-use Rattle.run_words.specs.declared.form.Form.{Form}
-use Rattle.run_words.specs.declared.form.Form.TheVariants.{Replay, Brief, Wallet, Operator, Watcher, InitWatcher, Archive}
 use Rattle.run_words.specs.declared.parsing.TheConstants.{NAMES}
 
 -- the names that forms begin with

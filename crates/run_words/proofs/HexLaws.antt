@@ -1,9 +1,5 @@
 -- Which texts are the digits of bytes, and how many digits bytes have.
-use Rattle.std.proofs.Common.{◌≡◌, ◌∙◌, ℕ, ◌*◌, ◌+◌, ◌%◌, ◌==◌, ◌&&◌, Bool, true, false, List, [], ◌∷◌, length, Option, Some, None, refl, sym, ap, arith}
-use Rattle.std.specs.Prelude.{is_some, if◌then◌else◌, unwrap_or}
-use Rattle.std.proofs.lemmas.Option.{none-some}
-use Rattle.std.specs.List.{list_all}
-use Rattle.plasma_base.specs.HexText.{◌>>=◌, digits_in, hex_in, lower_digit_in, pair_in}
+use Rattle.run_words.proofs.Basics.{◌≡◌, ◌∙◌, ℕ, ◌*◌, ◌+◌, ◌%◌, ◌==◌, ◌&&◌, Bool, List, [], ◌∷◌, length, Option, Some, None, refl, sym, ap, arith, is_some, none-some, list_all, common_steps, ◌>>=◌, digits_in, hex_in, lower_digit_in, pair_in}
 
 -- whether each is a digit
 abbrev are_digits : List ℕ → Bool
@@ -33,17 +29,12 @@ two_sized : (high : Option ℕ) (rest : Option (List ℕ)) (count : ℕ) (bytes 
     → (high >>= λ byte. rest >>= λ more. Some (byte ∷ more)) ≡ Some bytes → count + 2 ≡ length bytes * 2
 two_sized None rest count bytes sized is = absurd (none-some bytes is)
 two_sized (Some byte) None count bytes sized is = absurd (none-some bytes is)
-two_sized (Some byte) (Some more) count bytes sized is =
-    let each : count ≡ length more * 2 = sized more refl in
-    let same : length (byte ∷ more) ≡ length bytes = ap (λ (o : Option (List ℕ)). length (unwrap_or o [])) is in
-    omega arith
+two_sized (Some byte) (Some more) count bytes sized is = grind (arith, common_steps, sized) steps 20000
 
 -- bytes have two digits each
 digits_sized : (digits bytes : List ℕ) → digits_in digits ≡ Some bytes → length digits ≡ length bytes * 2
 unfolding digits_in
-digits_sized [] bytes is =
-    let same : 0 ≡ length bytes = ap (λ (o : Option (List ℕ)). length (unwrap_or o [])) is in
-    omega arith
+digits_sized [] bytes is = grind (arith, common_steps) steps 20000
 digits_sized (digit ∷ []) bytes is = absurd (none-some bytes is)
 digits_sized (high ∷ low ∷ digits) bytes is =
     let two = two_sized (pair_in high low) (digits_in digits) (length digits) bytes (digits_sized digits) is in
@@ -52,13 +43,4 @@ digits_sized (high ∷ low ∷ digits) bytes is =
 -- the text of bytes has two characters more than two for each byte
 pub sized : (text bytes : List ℕ) → hex_in text ≡ Some bytes → length text ≡ length bytes * 2 + 2
 unfolding hex_in
-sized [] bytes is = absurd (none-some bytes is)
-sized (first ∷ []) bytes is = absurd (none-some bytes is)
-sized (first ∷ second ∷ digits) bytes is = go (first == 48 && second == 120) is
-  where
-    go : (b : Bool) → (if b then digits_in digits else None) ≡ Some bytes
-        → length (first ∷ second ∷ digits) ≡ length bytes * 2 + 2
-    go true same =
-        let each = digits_sized digits bytes same in
-        omega arith
-    go false same = absurd (none-some bytes same)
+sized text bytes is = grind (arith, common_steps, none-some, digits_sized) steps 20000

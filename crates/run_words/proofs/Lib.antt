@@ -1,3 +1,4 @@
+pub mod Basics
 pub mod HexLaws
 pub mod FormLaws
 pub mod Matching

@@ -1,9 +1,6 @@
 -- What three words say of a signature to verify.
 use Rattle.std.proofs.Common.{◌≡◌, ℕ, ◌≤◌, ◌<◌, List, [], ◌∷◌, length, get_or, Some, Bor, refl, arith}
-use Rattle.plasma_base.specs.HexText.{hex_in}
-use Rattle.run_words.specs.declared.form.Form.TheVariants.{Verify, HssVerify}
-use Rattle.run_words.specs.Words.{texts}
-use Rattle.run_words.specs.Forms.{verify_form, hss_verify}
+use Rattle.run_words.proofs.Basics.{hex_in, Verify, HssVerify, texts, verify_form, hss_verify}
 
 pub verify-of : (words : List (Bor (List ℕ))) (one two three : Bor (List ℕ)) (key message signature : List ℕ)
     → 3 ≤ length words → length words < 4 → hex_in (get_or words 0 one).now ≡ Some key

@@ -1,6 +1,4 @@
-use Rattle.std.proofs.Common.{sym, subst}
-use Rattle.std.proofs.lemmas.Result.{IfOk-weaker}
-use Rattle.run_words.specs.Forms.{IsSound}
+use Rattle.run_words.proofs.Basics.{sym, subst, IfOk-weaker, IsSound}
 use Rattle.run_words.proofs.SoundLaws.{forms-sound}
 use Rattle.run_words.proofs.form.form_of.Goals as goal
 

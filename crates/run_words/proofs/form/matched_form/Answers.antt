@@ -1,8 +1,4 @@
-use Rattle.std.proofs.Common.{◌≡◌, ◌∙◌, refl, sym, ap, [], codes}
-use Rattle.std.specs.Prelude.{unwrap_or}
-use Rattle.std.proofs.lemmas.Result.{IfOk-weaker}
-use Rattle.clap.specs.Words.{all_of, found_of, rows_of}
-use Rattle.run_words.specs.Words.{texts}
+use Rattle.run_words.proofs.Basics.{◌≡◌, ◌∙◌, refl, sym, ap, [], codes, unwrap_or, IfOk-weaker, all_of, found_of, rows_of, texts}
 use Rattle.run_words.proofs.Found.{form_found, rest_found}
 use Rattle.run_words.proofs.form.matched_form.Goals as goal
 

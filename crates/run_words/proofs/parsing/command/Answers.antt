@@ -1,7 +1,5 @@
-use Rattle.std.proofs.Common.{◌∙◌, sym, ap₂}
+use Rattle.run_words.proofs.Basics.{◌∙◌, sym, ap₂, with_subcommand, bare_command}
 use Rattle.std.proofs.lemmas.List.Sums.{fold_more}
-use Rattle.clap.specs.Words.{with_subcommand}
-use Rattle.run_words.specs.Parsing.{bare_command}
 use Rattle.run_words.proofs.parsing.command.Goals as goal
 
 pub loop-name-preserved : goal.loop-name-preserved

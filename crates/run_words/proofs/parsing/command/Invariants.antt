@@ -1,7 +1,4 @@
-use Rattle.std.proofs.Common.{◌≡◌, take}
-use Rattle.std.specs.Prelude.{fold}
-use Rattle.clap.specs.Words.{app_of, with_subcommand}
-use Rattle.run_words.specs.Parsing.{bare_command, subcommand_shape}
+use Rattle.run_words.proofs.Basics.{◌≡◌, take, fold, app_of, with_subcommand, bare_command, subcommand_shape}
 use Rattle.run_words.proofs.parsing.command.Given as goal
 
 -- the names so far have their subcommands

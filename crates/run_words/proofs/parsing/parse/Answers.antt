@@ -1,7 +1,4 @@
-use Rattle.std.proofs.Common.{◌≡◌, ◌∙◌, ap, map, string_bytes}
-use Rattle.std.proofs.lemmas.Result.{IfErr-weaker, IfOk-weaker}
-use Rattle.clap.specs.Words.{App, is_simple, subcommand_of, takes, app_of}
-use Rattle.run_words.specs.Parsing.{matched_words, run_command}
+use Rattle.run_words.proofs.Basics.{◌≡◌, ◌∙◌, ap, map, string_bytes, IfErr-weaker, IfOk-weaker, App, is_simple, subcommand_of, takes, app_of, matched_words, run_command}
 use Rattle.run_words.proofs.Matching.{simple, form_matches, form_taken}
 use Rattle.run_words.proofs.parsing.parse.Goals as goal
 
