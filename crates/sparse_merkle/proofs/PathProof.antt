@@ -1,19 +1,7 @@
 -- The proof of a path: it keeps the path's siblings that aren't the default of their level.
-use Rattle.std.proofs.Common.{◌≡◌, ◌≢◌, ℕ, zero, suc, ◌+◌, ◌*◌, ◌%◌, ◌^◌, ◌<◌, ◌≤◌, true, not, if◌then◌else◌, List, [], ◌∷◌, ◌++◌, Result, Ok, Err, IfOk, length, get_or, map, slice_index_or, refl, sym, ap, ◌∙◌, inl, inr, append-nil, arith}
+use Rattle.sparse_merkle.proofs.Words.{◌≡◌, ◌≢◌, ℕ, zero, suc, ◌+◌, ◌*◌, ◌%◌, ◌^◌, ◌<◌, ◌≤◌, true, not, if◌then◌else◌, List, [], ◌∷◌, ◌++◌, Result, Ok, Err, IfOk, length, get_or, map, slice_index_or, refl, sym, ap, ◌∙◌, inl, inr, append-nil, arith, bit_or, All, filter, range_with_len, cases_Bool, both_ways, All-append, All-filter, All-map, All-nil, filter-append, get_or-map-range_with_len, get_or-range_with_len, length-range_with_len, map-append, one_shl, bytes_eq-Decides, common_steps, MaskedPath, IsMaskedPath, is_canonical, proof_path, MasksPath, default_digest, AreDefaults, far_part, near_part, path_below, path_to, subtree_digest, Entry}
 use Rattle.std.specs.Int.Bits.{or_shifted_r}
-use Rattle.std.specs.Int.RustNames.{bit_or}
-use Rattle.std.specs.List.{All, filter, range_with_len}
-use Rattle.std.proofs.lemmas.Bool.{cases_Bool, both_ways}
-use Rattle.std.proofs.lemmas.List.Elements.{All-append, All-filter, All-map, All-nil, filter-append}
-use Rattle.std.proofs.lemmas.List.FromFn.{get_or-map-range_with_len, get_or-range_with_len, length-range_with_len}
-use Rattle.std.proofs.lemmas.List.{map-append}
-use Rattle.std.proofs.lemmas.Nat.{one_shl}
-use Rattle.std.proofs.lemmas.Slice.Eq.{bytes_eq-Decides}
-use Rattle.std.proofs.lemmas.Grind.{common_steps}
-use Rattle.sparse_merkle.specs.MaskedPath.{MaskedPath, IsMaskedPath, is_canonical, proof_path, MasksPath}
 use Rattle.sparse_merkle.specs.PathProof.{is_default_at, mask_of, kept_siblings, proof_of_path}
-use Rattle.sparse_merkle.specs.TreeDigest.{default_digest, AreDefaults, far_part, near_part, path_below, path_to, subtree_digest}
-use Rattle.sparse_merkle.specs.declared.tree.Entry.{Entry}
 use Rattle.sparse_merkle.proofs.TreeLaws.{length-path_below}
 use Rattle.sparse_merkle.proofs.ProofLaws.{MasksPath-none, MasksPath-default, MasksPath-sibling, MasksPath-one, proof_path-keeps, is_canonical-keeps}
 

@@ -1,5 +1,4 @@
-use Rattle.std.proofs.Common.{◌≡◌, ℕ, true, List, [], ◌∷◌, length, ◌==◌, sym, ap, ◌∙◌, refl, arith}
-use Rattle.sparse_merkle.specs.TreeDigest.{leaf_string}
+use Rattle.sparse_merkle.proofs.Words.{◌≡◌, ℕ, true, List, [], ◌∷◌, length, ◌==◌, sym, ap, ◌∙◌, refl, arith, leaf_string}
 use Rattle.sparse_merkle.proofs.TreeLaws.{default_digest-zero}
 use Rattle.sparse_merkle.proofs.opening.leaf_digest_with_defaults.Goals as goal
 

@@ -1,5 +1,4 @@
-use Rattle.std.proofs.Common.{◌≡◌, ap, ◌∙◌, arith}
-use Rattle.sparse_merkle.specs.MaskedPath.{proof_path}
+use Rattle.sparse_merkle.proofs.Words.{◌≡◌, ap, ◌∙◌, arith, proof_path}
 use Rattle.sparse_merkle.proofs.OpeningLaws.{digest_at_level-zero, hashed_string-step, is_opening-test}
 use Rattle.sparse_merkle.proofs.ProofLaws.{length-proof_path}
 use Rattle.sparse_merkle.proofs.opening.opens_with_defaults.Goals as goal

@@ -1,5 +1,4 @@
-use Rattle.std.proofs.Common.{◌≡◌}
-use Rattle.sparse_merkle.specs.Opening.{digest_at_level}
+use Rattle.sparse_merkle.proofs.Words.{◌≡◌, digest_at_level}
 use Rattle.sparse_merkle.proofs.opening.opens_with_defaults.Given as goal
 
 abbrev pub invariant-loop-level : goal.invariant-loop-level
