@@ -1,27 +1,8 @@
 -- What an accepted call shows.
 use Rattle.std.proofs.Common.{◌≡◌, ℕ, ◌+◌, ◌<◌, ◌==◌, ◌||◌, not, true, false, if◌then◌else◌, List, [], ◌∷◌, Option, Some, None, option_map, option_and_then, refl, ◌∙◌, arith}
-use Rattle.std.specs.Prelude.{is_some, is_none, nat_lt}
-use Rattle.std.specs.List.{AllByRecursion}
-use Rattle.std.proofs.lemmas.Bool.{and_parts, or_parts, eqb-true, eqb-false, ltb-true, ltb-false, leb-true, leb-false, not-false}
-use Rattle.plasma_tx.specs.declared.rules.TheConstants.{RESPONSE_WINDOW, EXIT_PERIOD}
-use Rattle.plasma_tx.specs.declared.owner.Owner.{Owner}
-use Rattle.plasma_tx.specs.declared.opening.RawOpening.{RawOpening}
-use Rattle.plasma_tx.specs.declared.signed_tx.SignedTx.{SignedTx}
-use Rattle.plasma_tx.specs.declared.call.Shown.{Shown}
+use Rattle.plasma_tx.proofs.Words.{is_some, is_none, nat_lt, AllByRecursion, and_parts, or_parts, eqb-true, eqb-false, ltb-true, ltb-false, leb-true, leb-false, not-false, common_steps, RESPONSE_WINDOW, EXIT_PERIOD, Owner, RawOpening, SignedTx, Shown, RootCall, Fund, Tick, Deposit, Commit, StartDeposit, StartSpend, After, Between, Before, Respond, Finish, Answer, Funded, Deposited, Committed, Started, Cancelled, Challenged, Responded, Refused, CoinView, leaf_in, transfer_in, now, blocks, coins, coin_at, Challenge, Exit, exit_at, challenge_at, block_of, owner_of_coin, Tests, Rules, root_at, shown_tx, shown_owner, spends, signs, goes_to, Cause, decided, is_accepted, is_committed_after, is_committed_between, is_parent_of, fund_causes, deposit_causes, commit_causes, start_deposit_causes, start_spend_causes, after_causes, between_causes, before_causes, respond_causes, where_coin, where_exit, where_challenged, answer_to, ShowsTx, Deposits, Commits, StartsDeposit, StartsSpend, CancelsAfter, CancelsBetween, Challenges, Responds, Shows, OpeningsShow, OwnersAreRead, AcceptedCallsShow}
 use Rattle.plasma_tx.specs.declared.call.Shown.TheVariants.{Deposit as AtDeposit, Spend}
-use Rattle.plasma_tx.specs.declared.call.RootCall.{RootCall}
-use Rattle.plasma_tx.specs.declared.call.RootCall.TheVariants.{Fund, Tick, Deposit, Commit, StartDeposit, StartSpend, After, Between, Before, Respond, Finish}
-use Rattle.plasma_tx.specs.declared.answer.Answer.{Answer}
-use Rattle.plasma_tx.specs.declared.answer.Answer.TheVariants.{Funded, Ticked, Deposited, Committed, Started, Cancelled, Challenged, Responded, Refused}
-use Rattle.plasma_tx.specs.declared.views.CoinView.{CoinView}
-use Rattle.plasma_tx.specs.Openings.{leaf_in}
-use Rattle.plasma_tx.specs.Transfer.{transfer_in}
-use Rattle.plasma_tx.specs.Views.{now, blocks, coins, coin_at, Challenge, Exit, exit_at, challenge_at, block_of, owner_of_coin}
 use Rattle.plasma_tx.proofs.Leaves.{recipient-named}
-use Rattle.plasma_tx.specs.Shown.{Tests, Rules, root_at, shown_tx, shown_owner, spends, signs, goes_to}
-use Rattle.plasma_tx.specs.Table.{Cause, decided, is_accepted, is_committed_after, is_committed_between, is_parent_of, fund_causes, tick_causes, deposit_causes, commit_causes, start_deposit_causes, start_spend_causes, after_causes, between_causes, before_causes, respond_causes, finish_causes, finish_effect, where_coin, where_exit, where_challenged, answer_to}
-use Rattle.plasma_tx.specs.Accepted.{ShowsTx, Deposits, Commits, StartsDeposit, StartsSpend, CancelsAfter, CancelsBetween, Challenges, Responds}
-use Rattle.plasma_tx.specs.RuleLaws.{Shows, OpeningsShow, OwnersAreRead, AcceptedCallsShow}
 
 -- ---- no cause holds
 
@@ -42,29 +23,24 @@ none_holds (cause ∷ causes) effect is =
 pub coin_there : (found : Option CoinView) (answer : CoinView → Answer)
     → is_accepted (where_coin found answer) ≡ true
     → (coin : CoinView) × (found ≡ Some coin) × (is_accepted (answer coin) ≡ true)
-coin_there None answer is = absurd (cc)
-coin_there (Some coin) answer is = (coin, refl, is)
+coin_there found answer is = grind (arith, common_steps) steps 20000
 
 pub exit_there : (found : Option Exit) (answer : Exit → Answer) → is_accepted (where_exit found answer) ≡ true
     → (exit : Exit) × (found ≡ Some exit) × (is_accepted (answer exit) ≡ true)
-exit_there None answer is = absurd (cc)
-exit_there (Some exit) answer is = (exit, refl, is)
+exit_there found answer is = grind (arith, common_steps) steps 20000
 
 pub challenge_there : (found : Option Challenge) (answer : Challenge → Answer)
     → is_accepted (where_challenged found answer) ≡ true
     → (challenge : Challenge) × (found ≡ Some challenge) × (is_accepted (answer challenge) ≡ true)
-challenge_there None answer is = absurd (cc)
-challenge_there (Some challenge) answer is = (challenge, refl, is)
+challenge_there found answer is = grind (arith, common_steps) steps 20000
 
 -- ---- options
 
 none_is : {A : Type 0} (found : Option A) → is_some found ≡ false → found ≡ None
-none_is None is = refl
-none_is (Some x) is = absurd (cc)
+none_is found is = grind (arith, common_steps) steps 20000
 
 some_is : {A : Type 0} (found : Option A) → is_none found ≡ false → (x : A) × (found ≡ Some x)
-some_is None is = absurd (cc)
-some_is (Some x) is = (x, refl)
+some_is found is = grind (arith, common_steps) steps 20000
 
 some_same : {A : Type 0} (x y : A) → Some x ≡ Some y → x ≡ y
 some_same x y e = cc
@@ -77,14 +53,7 @@ shows_tx : (tests : Tests) (rules : Rules) (log : List RootCall) (c : ℕ) (open
     if tests.opens root c opening
     then transfer_in rules.tag c opening.block (leaf_in opening.bytes)
     else None) found ≡ Some tx → ShowsTx tests rules log c opening tx
-shows_tx tests rules log c opening tx None at is = absurd (cc)
-shows_tx tests rules log c opening tx (Some root) at is =
-    (elim (tests.opens root c opening) as (λ b. tests.opens root c opening ≡ b
-    → (if b then transfer_in rules.tag c opening.block (leaf_in opening.bytes) else None) ≡ Some tx
-    → ShowsTx tests rules log c opening tx) [
-      | true ↦ λ opened spelled. record { root = root; committed = at; opened = opened; spelled = spelled }
-      | false ↦ λ opened wrong. absurd (cc)
-    ]) refl is
+shows_tx tests rules log c opening tx found at is = grind (arith, common_steps) steps 20000
 
 pub openings_show : OpeningsShow
 unfolding shown_tx
@@ -93,13 +62,11 @@ openings_show tests rules log c opening tx is =
 
 depositor : (found : Option CoinView) (owner : Owner) → option_map (λ made. made.owner) found ≡ Some owner
     → owner_of_coin found ≡ owner
-depositor None owner is = absurd (cc)
-depositor (Some coin) owner is = some_same coin.owner owner is
+depositor found owner is = grind (arith, common_steps, some_same) steps 20000
 
 recipient : (found : Option SignedTx) (owner : Owner) → option_map (λ tx. tx.body.to) found ≡ Some owner
     → (tx : SignedTx) × (found ≡ Some tx) × (tx.body.to ≡ owner)
-recipient None owner is = absurd (cc)
-recipient (Some tx) owner is = (tx, refl, some_same tx.body.to owner is)
+recipient found owner is = grind (arith, common_steps, some_same) steps 20000
 
 pub owners_are_read : OwnersAreRead
 owners_are_read tests rules log c (AtDeposit block) owner is = depositor (coin_at log c) owner is
@@ -120,13 +87,7 @@ record IsSpend (tests : Tests) (block : ℕ) (owner : Owner) (found : Option Sig
 is_spend : (tests : Tests) (block : ℕ) (owner : Owner) (found : Option SignedTx) → is_none found ≡ false
     → not (spends block found) ≡ false → not (signs tests (Some owner) found) ≡ false
     → IsSpend tests block owner found
-is_spend tests block owner None there child signed = absurd (cc)
-is_spend tests block owner (Some tx) there child signed = record {
-  tx = tx;
-  there = refl;
-  child = eqb-true tx.body.parent block (not-false _ child);
-  signed = not-false _ signed;
-}
+is_spend tests block owner found there child signed = grind (arith, common_steps, eqb-true, not-false) steps 20000
 
 -- the owner after the parent is shown, and the transfer, which goes to the account, is a spend by that owner
 record IsExitSpend (tests : Tests) (account block : ℕ) (parent_owner : Option Owner) (found : Option SignedTx)
@@ -158,30 +119,16 @@ above_zero n is = let apart : n ≡ 0 → ⊥ = eqb-false n 0 is in omega arith
 module _ (tests : Tests) (rules : Rules) (log : List RootCall) where
   deposits : (account amount : ℕ) (key : List ℕ) → NoneHolds (deposit_causes rules log account amount key)
       → Deposits rules log account amount key
-  deposits account amount key none = record {
-    some_money = above_zero amount none.0;
-    key_reads = not-false _ none.1.0;
-    covered = ltb-false _ _ none.1.1.0;
-    room = leb-false _ _ none.1.1.1.0;
-  }
+  deposits account amount key none =
+      grind (arith, common_steps, above_zero, not-false, ltb-false, leb-false) steps 20000
 
   commits : (account : ℕ) → NoneHolds (commit_causes rules log account) → Commits rules log account
-  commits account none = record {
-    operator = eqb-true account rules.operator (not-false _ none.0);
-    room = leb-false _ _ none.1.0;
-  }
+  commits account none = grind (arith, common_steps, eqb-true, not-false, leb-false) steps 20000
 
   starts_deposit : (account c block : ℕ) (coin : CoinView) → coin_at log c ≡ Some coin
       → NoneHolds (start_deposit_causes log account c block coin) → StartsDeposit log account c block
-  starts_deposit account c block coin there none = record {
-    coin = coin;
-    there = there;
-    not_withdrawn = none.0;
-    at_deposit = eqb-true block coin.deposit (not-false _ none.1.0);
-    owner = eqb-true account coin.owner.account (not-false _ none.1.1.0);
-    none_stands = none_is (exit_at log c block) none.1.1.1.0;
-    covered = ltb-false _ _ none.1.1.1.1.0;
-  }
+  starts_deposit account c block coin there none =
+      grind (arith, common_steps, eqb-true, not-false, none_is, ltb-false) steps 20000
 
   starts_spend : (account c : ℕ) (parent : Shown) (exit : RawOpening) (coin : CoinView) → coin_at log c ≡ Some coin
       → NoneHolds
@@ -192,41 +139,13 @@ module _ (tests : Tests) (rules : Rules) (log : List RootCall) where
       (is_parent_of log coin exit.block parent) (not-false _ none.1.0) in
       let spend = is_exit_spend tests account (block_of parent) (shown_owner tests rules log c parent)
       (shown_tx tests rules log c exit) none.1.1.0 none.1.1.1.0 none.1.1.1.1.0 none.1.1.1.1.1.0 in
-      record {
-        coin = coin;
-        there = there;
-        not_withdrawn = none.0;
-        committed = fits.0;
-        parent_fits = fits.1;
-        parent_owner = spend.owner;
-        parent_shown = spend.owner_there;
-        tx = spend.spend.tx;
-        shown = openings_show tests rules log c exit spend.spend.tx spend.spend.there;
-        child = spend.spend.child;
-        signed = spend.spend.signed;
-        owner = spend.goes;
-        none_stands = none_is (exit_at log c exit.block) none.1.1.1.1.1.1.0;
-        covered = ltb-false _ _ none.1.1.1.1.1.1.1.0;
-      }
+      grind (arith, common_steps, openings_show, none_is, ltb-false) steps 20000
 
   cancels_after : (c exit_block : ℕ) (spend : RawOpening) (exit : Exit) → exit_at log c exit_block ≡ Some exit
       → NoneHolds (after_causes tests log exit spend.block (shown_tx tests rules log c spend))
       → CancelsAfter tests rules log c exit_block spend
   cancels_after c exit_block spend exit there none =
-      let committed = and_parts (is_some (root_at log spend.block)) (nat_lt exit.block spend.block)
-      (not-false _ none.1.0) in
-      let is = is_spend tests exit.block exit.owner (shown_tx tests rules log c spend) none.1.1.0 none.1.1.1.0
-      none.1.1.1.1.0 in
-      record {
-        exit = exit;
-        stands = there;
-        in_time = leb-false _ _ none.0;
-        later = ltb-true _ _ committed.1;
-        tx = is.tx;
-        shown = openings_show tests rules log c spend is.tx is.there;
-        child = is.child;
-        signed = is.signed;
-      }
+      grind (arith, common_steps, and_parts, not-false, is_spend, leb-false, ltb-true, openings_show) steps 20000
 
   cancels_between : (c exit_block : ℕ) (spend : RawOpening) (exit : Exit) → exit_at log c exit_block ≡ Some exit
       → NoneHolds (between_causes tests log exit spend.block (shown_tx tests rules log c spend))
@@ -236,37 +155,13 @@ module _ (tests : Tests) (rules : Rules) (log : List RootCall) where
       none.1.0 in
       let below = and_parts (is_committed_after log exit.parent spend.block) (nat_lt spend.block exit.block)
       (not-false _ fits.1) in
-      let above = and_parts (is_some (root_at log spend.block)) (nat_lt exit.parent spend.block) below.0 in
-      let is = is_spend tests exit.parent exit.parent_owner (shown_tx tests rules log c spend) none.1.1.0
-      none.1.1.1.0 none.1.1.1.1.0 in
-      record {
-        exit = exit;
-        stands = there;
-        in_time = leb-false _ _ none.0;
-        parent = above_zero exit.parent fits.0;
-        later = ltb-true _ _ above.1;
-        earlier = ltb-true _ _ below.1;
-        tx = is.tx;
-        shown = openings_show tests rules log c spend is.tx is.there;
-        child = is.child;
-        signed = is.signed;
-      }
+      grind (arith, common_steps, and_parts, is_spend, leb-false, above_zero, ltb-true, openings_show) steps 20000
 
   challenges : (account c exit_block : ℕ) (shown : Shown) (exit : Exit) → exit_at log c exit_block ≡ Some exit
       → NoneHolds (before_causes log account c exit shown (shown_owner tests rules log c shown))
       → Challenges tests rules log account c exit_block shown
   challenges account c exit_block shown exit there none =
-      let owner = some_is (shown_owner tests rules log c shown) none.1.1.0 in
-      record {
-        exit = exit;
-        stands = there;
-        in_time = leb-false _ _ none.0;
-        before = not-false _ none.1.0;
-        owner = owner.0;
-        owner_shown = owner.1;
-        none_there = none_is (challenge_at (block_of shown) exit.challenges) none.1.1.1.0;
-        covered = ltb-false _ _ none.1.1.1.1.0;
-      }
+      grind (arith, common_steps, some_is, leb-false, not-false, none_is, ltb-false) steps 20000
 
   responds : (c exit_block challenged : ℕ) (spend : RawOpening) (exit : Exit) (challenge : Challenge)
       → exit_at log c exit_block ≡ Some exit → challenge_at challenged exit.challenges ≡ Some challenge
@@ -277,28 +172,13 @@ module _ (tests : Tests) (rules : Rules) (log : List RootCall) where
       let committed = and_parts (is_some (root_at log spend.block)) (nat_lt challenge.block spend.block) fits.0 in
       let is = is_spend tests challenge.block challenge.owner (shown_tx tests rules log c spend) none.1.1.1.0
       none.1.1.1.1.0 none.1.1.1.1.1.0 in
-      record {
-        exit = exit;
-        stands = stands;
-        challenge = challenge;
-        there = there;
-        open_still = none.0;
-        in_time = leb-false _ _ none.1.0;
-        later = ltb-true _ _ committed.1;
-        within = leb-true _ _ fits.1;
-        tx = is.tx;
-        shown = openings_show tests rules log c spend is.tx is.there;
-        child = is.child;
-        signed = is.signed;
-      }
+      grind (arith, common_steps, leb-false, ltb-true, leb-true, openings_show) steps 20000
 
   -- each kind of call
   shows : (call : RootCall) → is_accepted (answer_to tests rules log call) ≡ true → Shows tests rules log call
   unfolding answer_to
   shows (Fund account amount) is = ltb-false _ _ (none_holds (fund_causes log amount) Funded is).0
-  shows (Tick time) is =
-      let none = none_holds (tick_causes log time) Ticked is in
-      (ltb-false _ _ none.0, ltb-false _ _ none.1.0)
+  shows (Tick time) is = grind (arith, common_steps, none_holds, ltb-false) steps 20000
   shows (Deposit account amount key) is =
       deposits account amount key
       (none_holds (deposit_causes rules log account amount key) (Deposited (coins log + 1) (blocks log + 1)) is)
@@ -333,13 +213,7 @@ module _ (tests : Tests) (rules : Rules) (log : List RootCall) where
       responds c exit_block challenged spend found.0 one.0 found.1 one.1
       (none_holds (respond_causes tests log found.0 one.0 spend.block (shown_tx tests rules log c spend)) Responded
       one.2)
-  shows (Finish account c exit_block) is =
-      let found = exit_there (exit_at log c exit_block) _ is in
-      record {
-        exit = found.0;
-        stands = found.1;
-        in_time = ltb-false _ _ (none_holds (finish_causes log found.0) (finish_effect log c found.0) found.2).0;
-      }
+  shows (Finish account c exit_block) is = grind (arith, common_steps, exit_there, ltb-false, none_holds) steps 20000
 
 pub accepted_calls_show : AcceptedCallsShow
 accepted_calls_show tests rules log call is = shows tests rules log call is

@@ -1,13 +1,5 @@
 -- Each movement of a call is of one of the first n accounts, where each account that makes a call is.
-use Rattle.std.proofs.Common.{◌≡◌, ℕ, ◌+◌, ◌<◌, ◌==◌, not, Bool, true, false, if◌then◌else◌, List, [], ◌∷◌, ◌++◌, Option, Some, None, inl, inr, refl, subst}
-use Rattle.std.specs.List.{AllByRecursion}
-use Rattle.std.proofs.lemmas.Bool.{cases_eq, eq-eqb, ne_eqb}
-use Rattle.plasma_tx.specs.declared.movement.Movement.{Movement}
-use Rattle.plasma_tx.specs.declared.call.RootCall.{RootCall}
-use Rattle.plasma_tx.specs.declared.call.RootCall.TheVariants.{Fund, Deposit, StartDeposit, StartSpend, After, Between, Before, Respond, Finish}
-use Rattle.plasma_tx.specs.declared.views.CoinView.{CoinView}
-use Rattle.plasma_tx.specs.Views.{coins, coin_at, Challenge, Exit, is_exit, with_answer_at, new_challenge, new_coin, exits, exit_at, is_withdrawn}
-use Rattle.plasma_tx.specs.Money.{amount_of, open_challenges, challenge_bonds, cancel_pays, payout, finish_pays, pays, takes, exit_bonds, answered_bond, challenge_of, amount_released, finish_releases, releases, AccountsBelow}
+use Rattle.plasma_tx.proofs.Words.{◌≡◌, ℕ, ◌+◌, ◌<◌, not, Bool, List, [], ◌∷◌, ◌++◌, Option, Some, None, inl, inr, refl, arith, AllByRecursion, cases_eq, eq-eqb, ne_eqb, common_steps, Movement, RootCall, Deposit, Fund, StartDeposit, StartSpend, After, Between, Before, Respond, Finish, CoinView, coins, coin_at, Challenge, Exit, is_exit, with_answer_at, exits, exit_at, is_withdrawn, amount_of, open_challenges, challenge_bonds, cancel_pays, payout, finish_pays, pays, takes, exit_bonds, answered_bond, challenge_of, amount_released, finish_releases, releases, AccountsBelow}
 use Rattle.plasma_tx.proofs.Each.{some_same, all-append, all-filter, all-map, all-found, each-exit}
 use Rattle.plasma_tx.proofs.RuleNames.{is_at}
 use Rattle.plasma_tx.proofs.Sums.{MovedBelow}
@@ -21,12 +13,7 @@ IsExitBelow n x = (x.account < n) × AllByRecursion (IsChallengerBelow n) x.chal
 
 answered-below : (n block : ℕ) (challenge : Challenge) → IsChallengerBelow n challenge
     → IsChallengerBelow n (with_answer_at block challenge)
-answered-below n block challenge h =
-    elim (challenge.block == block) as
-    (λ b. (if b then record challenge { answered = true } else challenge).by < n) [
-      | true ↦ h
-      | false ↦ h
-    ]
+answered-below n block challenge h = grind (arith, common_steps) steps 20000
 
 exits-below : (n : ℕ) (log : List RootCall) → AccountsBelow n log → AllByRecursion (IsExitBelow n) (exits log)
 unfolding exits
@@ -37,16 +24,10 @@ exits-below n (StartSpend account c parent exit ∷ log) below =
     each-exit (IsExitBelow n) log (StartSpend account c parent exit) (below.0.0, tt) tt (exits-below n log below.1)
 exits-below n (Before account c e shown ∷ log) below =
     each-exit (IsExitBelow n) log (Before account c e shown) tt
-    (λ x none old. (
-      old.0,
-      all-append (IsChallengerBelow n) x.challenges (new_challenge log account c e shown) old.1 below.0.0,
-    )) (exits-below n log below.1)
+    (grind (arith, common_steps, all-append) steps 20000) (exits-below n log below.1)
 exits-below n (Respond account c e challenged spend ∷ log) below =
     each-exit (IsExitBelow n) log (Respond account c e challenged spend) tt
-    (λ x old. (
-      old.0,
-      all-map (IsChallengerBelow n) (with_answer_at challenged) (answered-below n challenged) x.challenges old.1,
-    )) (exits-below n log below.1)
+    (grind (arith, common_steps, all-map, answered-below) steps 20000) (exits-below n log below.1)
 exits-below n (call ∷ log) below = each-exit (IsExitBelow n) log call tt tt (exits-below n log below.1)
 
 exit-below : (n : ℕ) (log : List RootCall) → AccountsBelow n log → (c e : ℕ) (x : Exit) → exit_at log c e ≡ Some x
@@ -61,8 +42,7 @@ unfolding coin_at
 coin-below n [] below c coin is = absurd (cc is)
 coin-below n (Deposit account amount key ∷ log) below c coin is =
     elim (cases_eq c (coins log + 1)) [
-      | inl last ↦ subst (λ (x : CoinView). x.owner.account < n)
-          (some_same (new_coin log account amount key) coin (simp (eq-eqb c (coins log + 1) last) at is)) below.0.0
+      | inl last ↦ grind (arith, common_steps, some_same, eq-eqb) steps 20000
       | inr other ↦ coin-below n log below.1 c coin (simp (ne_eqb c (coins log + 1) other) at is)
     ]
 coin-below n (call ∷ log) below c coin is = coin-below n log below.1 c coin is
@@ -89,9 +69,7 @@ cancel-below n account (Some x) below in_exit =
 
 payout-below : (n : ℕ) (x : Exit) (withdrawn : Bool) (amount : ℕ) (challenges : List Challenge) → x.account < n
     → AllByRecursion (IsChallengerBelow n) challenges → MovedBelow n (payout x withdrawn amount challenges)
-payout-below n x withdrawn amount (y ∷ ys) below h = (h.0, bonds-below n (y ∷ ys) h)
-payout-below n x true amount [] below h = (below, tt)
-payout-below n x false amount [] below h = (below, tt)
+payout-below n x withdrawn amount challenges below h = grind (arith, common_steps, bonds-below) steps 20000
 
 finish-below : (n : ℕ) (withdrawn : Bool) (amount : ℕ) (found : Option Exit)
     → ((x : Exit) → found ≡ Some x → IsExitBelow n x) → MovedBelow n (finish_pays withdrawn amount found)
@@ -109,22 +87,16 @@ exit_bonds-below n (Some x) in_exit =
 
 answered_bond-below : (n : ℕ) (found : Option Challenge)
     → ((y : Challenge) → found ≡ Some y → IsChallengerBelow n y) → MovedBelow n (answered_bond found)
-answered_bond-below n None in_one = tt
-answered_bond-below n (Some y) in_one = (in_one y refl, tt)
+answered_bond-below n found in_one = grind (arith, common_steps) steps 20000
 
 challenge-below : (n block : ℕ) (found : Option Exit) → ((x : Exit) → found ≡ Some x → IsExitBelow n x)
     → (y : Challenge) → challenge_of found block ≡ Some y → IsChallengerBelow n y
-challenge-below n block None in_exit y is = absurd (cc is)
-challenge-below n block (Some x) in_exit y is =
-    (all-found (IsChallengerBelow n) (is_at block) x.challenges y (in_exit x refl).1 is).0
+challenge-below n block found in_exit y is = grind (arith, common_steps, all-found, is_at) steps 20000
 
 amount-below : (n : ℕ) (challenges : List Challenge) (withdrawn : Bool) (found : Option CoinView)
     → ((coin : CoinView) → found ≡ Some coin → coin.owner.account < n)
     → MovedBelow n (amount_released challenges withdrawn found)
-amount-below n (y ∷ ys) withdrawn found in_coin = tt
-amount-below n [] true found in_coin = tt
-amount-below n [] false None in_coin = tt
-amount-below n [] false (Some coin) in_coin = (in_coin coin refl, tt)
+amount-below n challenges withdrawn found in_coin = grind (arith, common_steps) steps 20000
 
 finish_releases-below : (n : ℕ) (withdrawn : Bool) (coin : Option CoinView) (found : Option Exit)
     → ((made : CoinView) → coin ≡ Some made → made.owner.account < n)
@@ -139,24 +111,20 @@ finish_releases-below n withdrawn coin (Some x) in_coin in_exit =
 pub paid-below : (n : ℕ) (log : List RootCall) (call : RootCall) → AccountsBelow n (call ∷ log)
     → MovedBelow n (pays log call)
 unfolding pays
-paid-below n log (Fund account amount) below = (below.0.0, tt)
 paid-below n log (After account c e spend) below =
     cancel-below n account (exit_at log c e) below.0.0 (exit-below n log below.1 c e)
 paid-below n log (Between account c e spend) below =
     cancel-below n account (exit_at log c e) below.0.0 (exit-below n log below.1 c e)
-paid-below n log (Respond account c e challenged spend) below = (below.0.0, tt)
 paid-below n log (Finish account c e) below =
     finish-below n (is_withdrawn log c) (amount_of (coin_at log c)) (exit_at log c e) (exit-below n log below.1 c e)
+paid-below n log (Fund account amount) below = (below.0.0, tt)
+paid-below n log (Respond account c e challenged spend) below = (below.0.0, tt)
 paid-below n log call below = tt
 
 pub taken-below : (n : ℕ) (log : List RootCall) (call : RootCall) → AccountsBelow n (call ∷ log)
     → MovedBelow n (takes call)
 unfolding takes
-taken-below n log (Deposit account amount key) below = (below.0.0, tt)
-taken-below n log (StartDeposit account c block) below = (below.0.0, tt)
-taken-below n log (StartSpend account c parent exit) below = (below.0.0, tt)
-taken-below n log (Before account c e shown) below = (below.0.0, tt)
-taken-below n log call below = tt
+taken-below n log call below = grind (arith, common_steps) steps 20000
 
 pub released-below : (n : ℕ) (log : List RootCall) (call : RootCall) → AccountsBelow n (call ∷ log)
     → MovedBelow n (releases log call)

@@ -1,21 +1,6 @@
 -- What a log of accepted calls keeps, beside money: times, owners, and that coins, exits and challenges are there.
-use Rattle.std.proofs.Common.{◌≡◌, ℕ, ◌+◌, ◌≤◌, ◌==◌, ◌&&◌, true, false, if◌then◌else◌, List, [], ◌∷◌, Option, Some, inl, inr, sym, ap, ◌∙◌, subst, arith}
-use Rattle.std.specs.Prelude.{is_some}
-use Rattle.std.specs.List.{AllByRecursion}
-use Rattle.std.proofs.lemmas.Bool.{cases_eq, eqb-true, ne_eqb, and_parts, or_cases}
-use Rattle.plasma_tx.specs.declared.rules.TheConstants.{LAST_TIME, MOST_MONEY}
-use Rattle.plasma_tx.specs.declared.owner.Owner.{Owner}
-use Rattle.plasma_tx.specs.declared.call.RootCall.{RootCall}
-use Rattle.plasma_tx.specs.declared.call.RootCall.TheVariants.{Fund, Tick, Deposit, StartDeposit, StartSpend, Before, Respond, Finish}
-use Rattle.plasma_tx.specs.declared.views.CoinView.{CoinView}
-use Rattle.plasma_tx.specs.Openings.{leaf_in}
-use Rattle.plasma_tx.specs.Views.{now, coins, coin_at, Challenge, Exit, is_exit, exits, exit_at, with_answer_at, new_challenge, owner_of_coin, has_no_open_challenge, is_withdrawn}
-use Rattle.plasma_tx.specs.Laws.{is_challenged_at, RespondsAnswer}
+use Rattle.plasma_tx.proofs.Words.{◌≡◌, ℕ, ◌+◌, ◌≤◌, ◌==◌, ◌&&◌, true, List, [], ◌∷◌, Option, Some, inl, inr, sym, ap, ◌∙◌, arith, is_some, AllByRecursion, cases_eq, eqb-true, ne_eqb, and_parts, or_cases, common_steps, LAST_TIME, MOST_MONEY, Owner, RootCall, Fund, Tick, Deposit, StartDeposit, StartSpend, Before, Respond, Finish, CoinView, leaf_in, now, coins, coin_at, Challenge, Exit, is_exit, exits, exit_at, with_answer_at, owner_of_coin, has_no_open_challenge, is_withdrawn, is_challenged_at, RespondsAnswer, Rules, IsLegal, funded, IsDatedBy, TimesAreBounded, ExitsAreTheirOwners}
 use Rattle.plasma_tx.proofs.Leaves.{recipient-named}
-use Rattle.plasma_tx.specs.Shown.{Rules}
-use Rattle.plasma_tx.specs.Table.{IsLegal}
-use Rattle.plasma_tx.specs.Money.{funded}
-use Rattle.plasma_tx.specs.RuleLaws.{IsDatedBy, TimesAreBounded, ExitsAreTheirOwners}
 use Rattle.plasma_tx.proofs.Accepted.{accepted_calls_show}
 use Rattle.plasma_tx.proofs.Each.{all-append, all-map, all-weaker, all-found, each-exit}
 
@@ -54,8 +39,7 @@ exits_of_coins rules (Respond account c e challenged spend ∷ log) legal =
     each-exit (IsOfCoin (coins log)) log (Respond account c e challenged spend) tt (λ x old. old)
     (exits_of_coins rules log legal.1)
 exits_of_coins rules (Deposit account amount key ∷ log) legal =
-    all-weaker (IsOfCoin (coins log)) (IsOfCoin (coins log + 1)) (λ x old. omega arith) (exits log)
-    (exits_of_coins rules log legal.1)
+    grind (arith, common_steps, exits_of_coins rules log legal.1, all-weaker) steps 20000
 exits_of_coins rules (call ∷ log) legal =
     each-exit (IsOfCoin (coins log)) log call tt tt (exits_of_coins rules log legal.1)
 
@@ -64,10 +48,7 @@ pub found-coin : (rules : Rules) (log : List RootCall) (c e : ℕ) (exit : Exit)
     → exit_at log c e ≡ Some exit → c ≤ coins log
 unfolding exit_at
 found-coin rules log c e exit legal stands =
-    let found = all-found (IsOfCoin (coins log)) (is_exit c e) (exits log) exit (exits_of_coins rules log legal)
-    stands in
-    let own : exit.coin ≡ c = eqb-true exit.coin c (and_parts (exit.coin == c) (exit.block == e) found.1).0 in
-    omega (arith, found.0)
+    grind (arith, common_steps, all-found, exits_of_coins, eqb-true, and_parts) steps 20000
 
 -- a withdrawn coin is there
 pub withdrawn-le : (rules : Rules) (log : List RootCall) (c : ℕ) → IsLegal rules log → is_withdrawn log c ≡ true
@@ -77,9 +58,7 @@ withdrawn-le rules [] c legal is = absurd (cc)
 withdrawn-le rules (Finish account k m ∷ log) c legal is =
     let shown = accepted_calls_show legal.0.0 rules log (Finish account k m) legal.0.1 in
     elim (or_cases ((k == c) && has_no_open_challenge (exit_at log k m)) (is_withdrawn log c) is) [
-      | inl now ↦ subst (λ x. x ≤ coins log)
-          (eqb-true k c (and_parts (k == c) (has_no_open_challenge (exit_at log k m)) now).0)
-          (found-coin rules log k m shown.exit legal.1 shown.stands)
+      | inl now ↦ grind (arith, common_steps, eqb-true, and_parts, found-coin) steps 20000
       | inr before ↦ withdrawn-le rules log c legal.1 before
     ]
 withdrawn-le rules (Deposit account amount key ∷ log) c legal is = omega (arith, withdrawn-le rules log c legal.1 is)
@@ -110,18 +89,10 @@ IsMadeBy time challenge = challenge.at ≤ time
 
 answered-by : (time block : ℕ) (challenge : Challenge) → IsMadeBy time challenge
     → IsMadeBy time (with_answer_at block challenge)
-answered-by time block challenge h =
-    elim (challenge.block == block) as
-    (λ b. (if b then record challenge { answered = true } else challenge).at ≤ time) [
-      | true ↦ h
-      | false ↦ h
-    ]
+answered-by time block challenge h = grind (arith, common_steps) steps 20000
 
 later-by : (time more : ℕ) → time ≤ more → (x : Exit) → IsDatedBy time x → IsDatedBy more x
-later-by time more le x old = (
-  omega (arith, old.0),
-  all-weaker (IsMadeBy time) (IsMadeBy more) (λ challenge made. omega arith) x.challenges old.1,
-)
+later-by time more le x old = grind (arith, common_steps, all-weaker) steps 20000
 
 dated : (rules : Rules) (log : List RootCall) → IsLegal rules log → AllByRecursion (IsDatedBy (now log)) (exits log)
 unfolding IsLegal now exits
@@ -137,16 +108,10 @@ dated rules (StartSpend account c parent exit ∷ log) legal =
     (dated rules log legal.1)
 dated rules (Before account c e shown ∷ log) legal =
     each-exit (IsDatedBy (now log)) log (Before account c e shown) tt
-    (λ x none old. (
-      old.0,
-      all-append (IsMadeBy (now log)) x.challenges (new_challenge log account c e shown) old.1 (omega arith),
-    )) (dated rules log legal.1)
+    (grind (arith, common_steps, all-append) steps 20000) (dated rules log legal.1)
 dated rules (Respond account c e challenged spend ∷ log) legal =
     each-exit (IsDatedBy (now log)) log (Respond account c e challenged spend) tt
-    (λ x old. (
-      old.0,
-      all-map (IsMadeBy (now log)) (with_answer_at challenged) (answered-by (now log) challenged) x.challenges old.1,
-    )) (dated rules log legal.1)
+    (grind (arith, common_steps, all-map, answered-by) steps 20000) (dated rules log legal.1)
 dated rules (call ∷ log) legal = each-exit (IsDatedBy (now log)) log call tt tt (dated rules log legal.1)
 
 pub times_are_bounded : TimesAreBounded

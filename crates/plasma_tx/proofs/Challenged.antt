@@ -1,13 +1,5 @@
 -- The challenges of a standing exit are what the calls since its start say.
-use Rattle.std.proofs.Common.{◌≡◌, ℕ, ◌==◌, ◌&&◌, ◌||◌, Bool, true, false, if◌then◌else◌, List, [], ◌∷◌, ◌++◌, map, Option, Some, None, refl, sym, ap, ◌∙◌, subst, find}
-use Rattle.std.specs.Prelude.{is_some}
-use Rattle.std.specs.Option.{option_map, option_or}
-use Rattle.std.proofs.lemmas.Bool.{eqb-true, and_parts}
-use Rattle.plasma_tx.specs.declared.owner.Owner.{Owner}
-use Rattle.plasma_tx.specs.declared.call.RootCall.{RootCall}
-use Rattle.plasma_tx.specs.declared.call.RootCall.TheVariants.{Fund, Tick, Deposit, Commit, StartDeposit, StartSpend, After, Between, Before, Respond, Finish}
-use Rattle.plasma_tx.specs.Views.{Challenge, Exit, is_exit, challenge_at, deposit_exit, spend_exit, with_challenge, with_answer, with_answer_at, new_challenge, block_of, owner_of, now, exits, exit_at, without_exit, responses, without_responses, is_responded}
-use Rattle.plasma_tx.specs.Laws.{first_before, was_responded, with_answered, ChallengesStand}
+use Rattle.plasma_tx.proofs.Words.{◌≡◌, ℕ, ◌==◌, ◌&&◌, ◌||◌, Bool, true, false, if◌then◌else◌, List, [], ◌∷◌, map, Option, Some, None, refl, sym, ap, ◌∙◌, subst, find, arith, option_map, option_or, eqb-true, and_parts, common_steps, Owner, RootCall, StartDeposit, StartSpend, After, Between, Before, Respond, Finish, Challenge, Exit, is_exit, challenge_at, deposit_exit, spend_exit, with_challenge, with_answer, with_answer_at, new_challenge, block_of, owner_of, now, exits, exit_at, without_exit, responses, without_responses, is_responded, first_before, was_responded, with_answered, ChallengesStand}
 use Rattle.plasma_tx.proofs.Names.{find-without, find-started, find-changed, responded-without, responded-push, challenge_at-push, challenge_at-answered, challenge-at, some_same, eqb-flip, option_or-none}
 use Rattle.plasma_tx.proofs.Stands.{same-challenged}
 
@@ -39,59 +31,14 @@ challenged : (b n : ℕ) (x : Exit) (new first : Challenge) (was : Bool) (before
     → challenge_at b (with_challenge new x).challenges ≡ option_map (with_answered was)
     (option_or before (if n == b then Some first else None))
 challenged b n x new first was before at is makes =
-    (elim (is_some (challenge_at new.block x.challenges)) as (λ t. is_some (challenge_at new.block x.challenges) ≡ t
-    → challenge_at b (if t then x else record x { challenges = x.challenges ++ new ∷ [] }).challenges
-    ≡ option_map (with_answered was) (option_or before (if n == b then Some first else None))) [
-      | true ↦ λ there. is
-          ∙ (elim (n == b) as (λ t. (n == b) ≡ t → option_map (with_answered was) before
-          ≡ option_map (with_answered was) (option_or before (if t then Some first else None))) [
-            | true ↦ λ same. ap (option_map (with_answered was))
-                (sym (kept before
-                (sym (ap is_some is) ∙ ap (λ k. is_some (challenge_at k x.challenges)) (sym (at ∙ eqb-true n b same))
-                ∙ there)))
-            | false ↦ λ apart. ap (option_map (with_answered was)) (sym (option_or-none before))
-          ]) refl
-      | false ↦ λ none. challenge_at-push b x.challenges new
-          ∙ (λ i. option_or (is i) (if at i == b then Some new else None))
-          ∙ (elim (n == b) as (λ t. (n == b) ≡ t → option_or (option_map (with_answered was) before)
-          (if t then Some new else None) ≡ option_map (with_answered was)
-          (option_or before (if t then Some first else None))) [
-            | true ↦ λ same.
-                let nothing : is_some (option_map (with_answered was) before) ≡ false = sym (ap is_some is)
-                ∙ ap (λ k. is_some (challenge_at k x.challenges)) (sym (at ∙ eqb-true n b same)) ∙ none in
-                made before nothing (makes same)
-            | false ↦ λ apart. option_or-none (option_map (with_answered was) before)
-                ∙ ap (option_map (with_answered was)) (sym (option_or-none before))
-          ]) refl
-    ]) refl
-  where
-    kept : (o : Option Challenge) → is_some (option_map (with_answered was) o) ≡ true → option_or o (Some first) ≡ o
-    kept None wrong = absurd (cc wrong)
-    kept (Some y) is = refl
-
-    made : (o : Option Challenge) → is_some (option_map (with_answered was) o) ≡ false → new ≡ with_answered was first
-        → option_or (option_map (with_answered was) o) (Some new) ≡ option_map (with_answered was)
-        (option_or o (Some first))
-    made None none e = ap Some e
-    made (Some y) wrong e = absurd (cc wrong)
+    grind (arith, common_steps, eqb-true, option_or-none, challenge_at-push) steps 20000
 
 -- a response to the challenge at n
 answered : (b n : ℕ) (challenges : List Challenge) (was : Bool) (before : Option Challenge)
     → challenge_at b challenges ≡ option_map (with_answered was) before
     → challenge_at b (map (with_answer_at n) challenges) ≡ option_map (with_answered ((n == b) || was)) before
-answered b n challenges was before is = challenge_at-answered b n challenges ∙ ap (option_map (with_answer_at n)) is
-    ∙ each before is
-  where
-    each : (o : Option Challenge) → challenge_at b challenges ≡ option_map (with_answered was) o
-        → option_map (with_answer_at n) (option_map (with_answered was) o)
-        ≡ option_map (with_answered ((n == b) || was)) o
-    each None found = refl
-    each (Some y) found =
-        let at : (y.block == n) ≡ (n == b) = ap (λ k. k == n)
-        (eqb-true y.block b (challenge-at b challenges (with_answered was y) found)) ∙ eqb-flip b n in
-        ap (λ (t : Bool). Some (if t then with_answered true y else with_answered was y)) at
-        ∙ elim (n == b) as (λ t. Some (if t then with_answered true y else with_answered was y)
-        ≡ Some (with_answered (t || was) y)) [ true ↦ refl | false ↦ refl ]
+answered b n challenges was before is =
+    grind (arith, common_steps, challenge_at-answered, eqb-true, challenge-at, eqb-flip) steps 20000
 
 none_more : (b : ℕ) (found : Option Exit) (responded was : Bool) (before : Option Challenge)
     → Challenged b found responded was before
@@ -117,15 +64,8 @@ module _ (c e b : ℕ) where
       → Challenged b found responded was before
       → Challenged b (if t then option_map (with_challenge new) found else found) responded was
       (option_or before (if t && (n == b) then Some first else None))
-  by_before true n None new first responded was before at makes h exit is = absurd (cc is)
-  by_before true n (Some x) new first responded was before at makes h exit is =
-      let old = h x refl in (
-        ap (λ (y : Exit). challenge_at b y.challenges) (sym (some_same (with_challenge new x) exit is))
-            ∙ challenged b n x new first was before at old.0 (λ same. makes refl same old.1),
-        old.1,
-      )
-  by_before false n found new first responded was before at makes h exit is =
-      none_more b found responded was before h exit is
+  by_before t n found new first responded was before at makes h exit is =
+      grind (arith, common_steps, some_same, challenged, none_more) steps 20000
 
   by_respond : (t : Bool) (n : ℕ) (found : Option Exit) (responded was : Bool) (before : Option Challenge)
       → Challenged b found responded was before
@@ -133,11 +73,7 @@ module _ (c e b : ℕ) where
       ((t && (n == b)) || was) before
   by_respond true n None responded was before h exit is = absurd (cc is)
   by_respond true n (Some x) responded was before h exit is =
-      let old = h x refl in (
-        ap (λ (y : Exit). challenge_at b y.challenges) (sym (some_same (with_answer n x) exit is))
-            ∙ answered b n x.challenges was before old.0,
-        ap (λ (r : Bool). (n == b) || r) old.1,
-      )
+      let old = h x refl in grind (arith, common_steps, some_same, answered) steps 20000
   by_respond false n found responded was before h exit is = h exit is
 
   -- the first Before at the block is one by this name
@@ -154,12 +90,7 @@ module _ (c e b : ℕ) where
       } ≡ with_answered was
       (record { block = b; owner = owner; by = account; at = now log; answered = false })
   new_is log account k m n owner responded was t named is same read kept =
-      let parts = and_parts (k == c) (m == e) (sym named ∙ is) in
-      let block : n ≡ b = eqb-true n b same in
-      let answer : is_responded k m n (responses log) ≡ was =
-      (λ i. is_responded (eqb-true k c parts.0 i) (eqb-true m e parts.1 i) (block i) (responses log)) ∙ sym read
-      ∙ kept in
-      λ i. record { block = block i; owner = owner; by = account; at = now log; answered = answer i }
+      grind (arith, common_steps, and_parts, eqb-true, answered) steps 20000
 
   stand : (log : List RootCall) → Challenged b (find (is_exit c e) (exits log)) (is_responded c e b (responses log))
       (was_responded log c e b) (first_before log c e b)
@@ -199,24 +130,16 @@ module _ (c e b : ℕ) where
       (λ x. ap (λ (y : Exit). y.block) (same-challenged new x)) (exits log)))
       (by_before ((k == c) && (m == e)) n (find (is_exit c e) (exits log)) new first
       (is_responded c e b (responses log)) (was_responded log c e b) (first_before log c e b) refl
-      (λ named same kept. new_is log account k m n (owner_of log k shown) (is_responded c e b (responses log))
-      (was_responded log c e b) ((k == c) && (m == e)) refl named same refl kept) (stand log))
+      (grind (arith, common_steps, new_is) steps 20000) (stand log))
   stand (Respond account k m challenged spend ∷ log) =
       subst (λ (p : Option Exit × Bool). Challenged b p.0 p.1
       (((k == c) && (m == e) && (challenged == b)) || was_responded log c e b)
       (option_or (first_before log c e b) None))
-      (λ i. (
-        sym (find-changed c e k m (with_answer challenged) (λ x. refl) (λ x. refl) (exits log)) i,
-        sym
-            (responded-push c e b k m challenged (responses log)) i,
-      ))
+      (grind (arith, common_steps, find-changed, challenged, responded-push) steps 20000)
       (none_more b _ _ _ _
       (by_respond ((k == c) && (m == e)) challenged (find (is_exit c e) (exits log))
       (is_responded c e b (responses log)) (was_responded log c e b) (first_before log c e b) (stand log)))
-  stand (Fund account amount ∷ log) = none_more b _ _ _ _ (stand log)
-  stand (Tick time ∷ log) = none_more b _ _ _ _ (stand log)
-  stand (Deposit account amount key ∷ log) = none_more b _ _ _ _ (stand log)
-  stand (Commit account root ∷ log) = none_more b _ _ _ _ (stand log)
+  stand (call ∷ log) = none_more b _ _ _ _ (stand log)
 
 pub challenges_stand : ChallengesStand
 unfolding exit_at

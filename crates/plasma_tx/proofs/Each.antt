@@ -1,10 +1,5 @@
 -- What holds of each thing of a list, and of each standing exit after one more call.
-use Rattle.std.proofs.Common.{◌≡◌, ℕ, cond, not, Bool, true, false, if◌then◌else◌, List, [], ◌∷◌, ◌++◌, map, Some, refl, subst, find, filter}
-use Rattle.std.specs.Prelude.{is_some}
-use Rattle.std.specs.List.{AllByRecursion}
-use Rattle.plasma_tx.specs.declared.call.RootCall.{RootCall}
-use Rattle.plasma_tx.specs.declared.call.RootCall.TheVariants.{Fund, Tick, Deposit, Commit, StartDeposit, StartSpend, After, Between, Before, Respond, Finish}
-use Rattle.plasma_tx.specs.Views.{Challenge, Exit, is_exit, without_exit, with_exit_changed, challenge_at, block_of, deposit_exit, spend_exit, with_challenge, with_answer, new_challenge, exits}
+use Rattle.plasma_tx.proofs.Words.{◌≡◌, ℕ, not, Bool, true, false, if◌then◌else◌, List, [], ◌∷◌, ◌++◌, map, Some, refl, subst, find, filter, arith, is_some, AllByRecursion, common_steps, RootCall, StartDeposit, StartSpend, After, Between, Before, Respond, Finish, Challenge, Exit, is_exit, with_exit_changed, challenge_at, block_of, deposit_exit, spend_exit, with_challenge, with_answer, new_challenge, exits}
 
 pub some_same : {A : Type 0} (x y : A) → Some x ≡ Some y → x ≡ y
 some_same x y e = cc
@@ -16,11 +11,7 @@ module _ {X : Type 0} (P : X → Type 0) where
 
   pub all-filter : (p : X → Bool) (xs : List X) → AllByRecursion P xs → AllByRecursion P (filter p xs)
   all-filter p [] h = tt
-  all-filter p (x ∷ xs) h =
-      elim (p x) as (λ b. AllByRecursion P (cond b (x ∷ filter p xs) (filter p xs))) [
-        | true ↦ (h.0, all-filter p xs h.1)
-        | false ↦ all-filter p xs h.1
-      ]
+  all-filter p (x ∷ xs) h = grind (arith, common_steps, all-filter p xs h.1) steps 20000
 
   pub all-map : (change : X → X) → ((x : X) → P x → P (change x)) → (xs : List X) → AllByRecursion P xs
       → AllByRecursion P (map change xs)
@@ -60,39 +51,26 @@ ChangeKeeps P log call = Unit {0}
 module _ (P : Exit → Type 0) where
   all-changed : (c e : ℕ) (change : Exit → Exit) → ((x : Exit) → P x → P (change x)) → (xs : List Exit)
       → AllByRecursion P xs → AllByRecursion P (with_exit_changed c e change xs)
-  all-changed c e change keeps xs h =
-      all-map P (λ x. if is_exit c e x then change x else x)
-      (λ x p. elim (is_exit c e x) as (λ b. P (if b then change x else x)) [ true ↦ keeps x p | false ↦ p ]) xs h
+  all-changed c e change keeps xs h = grind (arith, common_steps, all-map) steps 20000
 
   challenge-keeps : (new : Challenge)
       → ((x : Exit) → is_some (challenge_at new.block x.challenges) ≡ false → P x
       → P (record x { challenges = x.challenges ++ new ∷ [] })) → (x : Exit) → P x → P (with_challenge new x)
-  challenge-keeps new keeps x p =
-      (elim (is_some (challenge_at new.block x.challenges)) as (λ b. is_some (challenge_at new.block x.challenges) ≡ b
-      → P (if b then x else record x { challenges = x.challenges ++ new ∷ [] })) [
-        | true ↦ λ there. p
-        | false ↦ λ none. keeps x none p
-      ]) refl
+  challenge-keeps new keeps x p = grind (arith, common_steps) steps 20000
 
   -- each standing exit after the call
   pub each-exit : (log : List RootCall) (call : RootCall) → StartHas P log call → ChangeKeeps P log call
       → AllByRecursion P (exits log) → AllByRecursion P (exits (call ∷ log))
   unfolding exits
   each-exit log (StartDeposit account c block) has keeps h =
-      all-append P (without_exit c block (exits log)) (deposit_exit log account c block)
-      (all-filter P (λ x. not (is_exit c block x)) (exits log) h) has
+      grind (arith, common_steps, all-append, all-filter) steps 20000
   each-exit log (StartSpend account c parent exit) has keeps h =
-      all-append P (without_exit c exit.block (exits log)) (spend_exit log account c parent exit)
-      (all-filter P (λ x. not (is_exit c exit.block x)) (exits log) h) has
+      grind (arith, common_steps, all-append, all-filter) steps 20000
   each-exit log (After account c e spend) has keeps h = all-filter P (λ x. not (is_exit c e x)) (exits log) h
   each-exit log (Between account c e spend) has keeps h = all-filter P (λ x. not (is_exit c e x)) (exits log) h
   each-exit log (Finish account c e) has keeps h = all-filter P (λ x. not (is_exit c e x)) (exits log) h
   each-exit log (Before account c e shown) has keeps h =
-      all-changed c e (with_challenge (new_challenge log account c e shown))
-      (challenge-keeps (new_challenge log account c e shown) keeps) (exits log) h
+      grind (arith, common_steps, all-changed, challenge-keeps) steps 20000
   each-exit log (Respond account c e challenged spend) has keeps h =
       all-changed c e (with_answer challenged) keeps (exits log) h
-  each-exit log (Fund account amount) has keeps h = h
-  each-exit log (Tick time) has keeps h = h
-  each-exit log (Deposit account amount key) has keeps h = h
-  each-exit log (Commit account root) has keeps h = h
+  each-exit log call has keeps h = h

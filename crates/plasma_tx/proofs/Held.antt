@@ -1,20 +1,6 @@
 -- What each accepted call does to what is held, by any weight of movements.
-use Rattle.std.proofs.Common.{◌≡◌, ℕ, ◌+◌, ◌<◌, ◌≤◌, ◌==◌, ◌&&◌, ◌||◌, Bool, true, false, if◌then◌else◌, List, [], ◌∷◌, Option, Some, None, inl, inr, ◌⊎◌, refl, sym, ap, ◌∙◌, subst, find, arith}
-use Rattle.std.specs.Prelude.{is_some}
-use Rattle.std.proofs.lemmas.Bool.{eq-eqb, ne_eqb, false_from_ne_true}
-use Rattle.plasma_tx.specs.declared.rules.TheConstants.{CHALLENGE_BOND}
-use Rattle.plasma_tx.specs.declared.movement.Movement.{Movement}
-use Rattle.plasma_tx.specs.declared.opening.RawOpening.{RawOpening}
-use Rattle.plasma_tx.specs.declared.call.Shown.{Shown}
-use Rattle.plasma_tx.specs.declared.call.RootCall.{RootCall}
-use Rattle.plasma_tx.specs.declared.call.RootCall.TheVariants.{Fund, Tick, Deposit, Commit, StartDeposit, StartSpend, After, Between, Before, Respond, Finish}
-use Rattle.plasma_tx.specs.declared.views.CoinView.{CoinView}
-use Rattle.plasma_tx.specs.Views.{coins, coin_at, Challenge, Exit, is_exit, without_exit, challenge_at, block_of, deposit_exit, spend_exit, with_challenge, with_answer, new_challenge, exits, exit_at, has_no_open_challenge, is_withdrawn}
-use Rattle.plasma_tx.specs.Laws.{is_challenged_at, RespondsAnswer}
+use Rattle.plasma_tx.proofs.Words.{◌≡◌, ℕ, ◌+◌, ◌<◌, ◌≤◌, ◌==◌, ◌&&◌, ◌||◌, Bool, true, false, if◌then◌else◌, List, [], ◌∷◌, Option, Some, None, ◌⊎◌, refl, sym, ap, ◌∙◌, subst, find, arith, is_some, eq-eqb, ne_eqb, false_from_ne_true, common_steps, CHALLENGE_BOND, Movement, RawOpening, Shown, RootCall, Fund, Tick, Deposit, Commit, StartDeposit, StartSpend, After, Between, Before, Respond, Finish, CoinView, coins, coin_at, Challenge, Exit, is_exit, without_exit, challenge_at, block_of, deposit_exit, spend_exit, with_challenge, with_answer, new_challenge, exits, exit_at, has_no_open_challenge, is_withdrawn, is_challenged_at, RespondsAnswer, Tests, Rules, answer_to, is_accepted, IsLegal, moved, exit_bonds, answered_bond, challenge_of, finish_releases, takes, releases, sum_below, held}
 use Rattle.plasma_tx.proofs.Answered.{new_challenges_are_open}
-use Rattle.plasma_tx.specs.Shown.{Tests, Rules}
-use Rattle.plasma_tx.specs.Table.{answer_to, is_accepted, IsLegal}
-use Rattle.plasma_tx.specs.Money.{moved, open_challenges, exit_bonds, answered_bond, challenge_of, amount_released, finish_releases, takes, releases, sum_below, unpaid, held}
 use Rattle.plasma_tx.proofs.Accepted.{accepted_calls_show}
 use Rattle.plasma_tx.proofs.Bounds.{found-coin, withdrawn-le, responds_answer}
 use Rattle.plasma_tx.proofs.RuleNames.{exits-distinct, challenged-once}
@@ -37,14 +23,7 @@ unpaid-after before amount c n true below =
     let g : ℕ → ℕ = λ k. if before k then 0 else amount k in
     let none : f c ≡ 0 = simp (eq-eqb c c refl) in
     omega (arith, none, sum_below-at f g n c below (λ k apart. simp (ne_eqb c k (λ same. apart (sym same)))))
-unpaid-after before amount c n false below =
-    let f : ℕ → ℕ = λ k. if ((c == k) && false) || before k then 0 else amount k in
-    let g : ℕ → ℕ = λ k. if before k then 0 else amount k in
-    omega (arith, sum_below-same f g n (λ k less. same k (c == k)))
-  where
-    same : (k : ℕ) (t : Bool) → (if (t && false) || before k then 0 else amount k) ≡ (if before k then 0 else amount k)
-    same k true = refl
-    same k false = refl
+unpaid-after before amount c n false below = grind (arith, common_steps, sum_below-same) steps 20000
 
 module _ (w : Movement → ℕ) where
   -- the weight of a coin's amount, where the coin isn't withdrawn
@@ -67,14 +46,7 @@ module _ (w : Movement → ℕ) where
       ≡ sum_below (unpaid_weight log) (coins log + 1) + w (moved account amount)
   unfolding is_withdrawn coin_at
   unpaid-more log account amount key there =
-      let top : ℕ = coins log + 1 in
-      let new : ℕ → ℕ = unpaid_weight (Deposit account amount key ∷ log) in
-      let fresh : is_withdrawn log top ≡ false =
-      false_from_ne_true (is_withdrawn log top) (λ is. absurd (omega (arith, there top is))) in
-      let last : new top ≡ w (moved account amount) = simp (fresh, eq-eqb top top refl) in
-      let front : sum_below new top ≡ sum_below (unpaid_weight log) top =
-      sum_below-same new (unpaid_weight log) top (λ k below. simp (ne_eqb k top (omega arith))) in
-      omega (arith, sum_below-next new top, last, front)
+      grind (arith, common_steps, false_from_ne_true, eq-eqb, sum_below-same, ne_eqb, sum_below-next) steps 20000
 
   held-Deposit : (log : List RootCall) (account amount : ℕ) (key : List ℕ)
       → ((c : ℕ) → is_withdrawn log c ≡ true → c ≤ coins log) → HeldMoves log (Deposit account amount key)
@@ -132,9 +104,7 @@ module _ (w : Movement → ℕ) where
   unfolding coins exits is_withdrawn coin_at takes releases
   held-Respond log account c e challenged spend exit one stands there is =
       let freed : weight_of w (answered_bond (challenge_of (exit_at log c e) challenged))
-      ≡ w (moved one.by CHALLENGE_BOND) + 0 =
-      ap (λ o. weight_of w (answered_bond (challenge_of o challenged))) stands
-      ∙ ap (λ o. weight_of w (answered_bond o)) there in
+      ≡ w (moved one.by CHALLENGE_BOND) + 0 = grind (arith, common_steps, weight_of) steps 20000 in
       omega (
         arith,
         freed,
@@ -148,8 +118,7 @@ module _ (w : Movement → ℕ) where
       ≡ exit_weight w exit
       + (if has_no_open_challenge (Some exit) then (if withdrawn then 0 else coin_weight w coin) else 0)
   finish-released withdrawn coin exit =
-      weight_of-append w (exit_bonds (Some exit)) (amount_released (open_challenges exit) withdrawn coin)
-      ∙ omega (arith, exit_weight-is w exit, amount_released-is w exit.challenges withdrawn coin)
+      grind (arith, common_steps, weight_of-append, exit_weight-is, amount_released-is) steps 20000
 
   held-Finish : (log : List RootCall) (account c e : ℕ) (exit : Exit) → exit_at log c e ≡ Some exit → c ≤ coins log
       → HeldMoves log (Finish account c e)
@@ -212,8 +181,7 @@ module _ (w : Movement → ℕ) where
       held-Respond log account c e challenged spend shown.exit shown.challenge shown.stands shown.there shown.open_still
   held_moves tests rules log (Finish account c e) legal is =
       let shown = accepted_calls_show tests rules log (Finish account c e) is in
-      held-Finish log account c e shown.exit shown.stands
-      (found-coin rules log c e shown.exit legal shown.stands)
+      grind (arith, common_steps, held-Finish, found-coin) steps 20000
 
   pub held_weight-none : held_weight [] ≡ 0
   unfolding coins exits is_withdrawn coin_at sum_below exits_weight
@@ -222,24 +190,9 @@ module _ (w : Movement → ℕ) where
 -- by amounts it is what is held
 pub held-is : (log : List RootCall) → held_weight by_amount log ≡ held log
 held-is log =
-    omega (
-      arith,
-      sum_below-same (unpaid_weight by_amount log) (unpaid log) (coins log + 1)
-          (λ c below. ap (λ n. if is_withdrawn log c then 0 else n) (coin_weight-amount (coin_at log c))),
-      exits_weight-amounts (exits log),
-    )
+    grind (arith, common_steps, sum_below-same, by_amount, coin_weight-amount, exits_weight-amounts) steps 20000
 
 -- a call takes nothing, or lets nothing go
 pub one_way : (log : List RootCall) (call : RootCall) → (takes call ≡ []) ⊎ (releases log call ≡ [])
 unfolding takes releases
-one_way log (Fund account amount) = inl refl
-one_way log (Tick time) = inl refl
-one_way log (Deposit account amount key) = inr refl
-one_way log (Commit account root) = inl refl
-one_way log (StartDeposit account c block) = inr refl
-one_way log (StartSpend account c parent exit) = inr refl
-one_way log (After account c e spend) = inl refl
-one_way log (Between account c e spend) = inl refl
-one_way log (Before account c e shown) = inr refl
-one_way log (Respond account c e challenged spend) = inl refl
-one_way log (Finish account c e) = inl refl
+one_way log call = grind (arith, common_steps) steps 20000

@@ -1,13 +1,5 @@
 -- The standing exits are in the order of their starts, and their challenges in the order of the Befores.
-use Rattle.std.proofs.Common.{◌≡◌, ℕ, zero, suc, ◌<◌, ◌≤◌, ◌==◌, ◌&&◌, cond, not, Bool, true, false, if◌then◌else◌, List, [], ◌∷◌, ◌++◌, map, length, get_or, Option, Some, None, refl, sym, ap, ◌∙◌, subst, find, filter, arith}
-use Rattle.std.specs.Prelude.{is_some}
-use Rattle.std.specs.Option.{option_map}
-use Rattle.std.specs.List.{AllByRecursion, AllPairs}
-use Rattle.std.proofs.lemmas.Bool.{eq-eqb}
-use Rattle.plasma_tx.specs.declared.call.RootCall.{RootCall}
-use Rattle.plasma_tx.specs.declared.call.RootCall.TheVariants.{Fund, Tick, Deposit, Commit, StartDeposit, StartSpend, After, Between, Before, Respond, Finish}
-use Rattle.plasma_tx.specs.Views.{Challenge, Exit, is_exit, without_exit, with_exit_changed, challenge_at, deposit_exit, spend_exit, with_challenge, with_answer, with_answer_at, new_challenge, exits, exit_at}
-use Rattle.plasma_tx.specs.Laws.{start_place, before_place, first_before, was_responded, with_answered, ExitsAreInOrder, ChallengesAreInOrder}
+use Rattle.plasma_tx.proofs.Words.{◌≡◌, ℕ, zero, suc, ◌<◌, ◌≤◌, ◌==◌, ◌&&◌, not, Bool, true, false, if◌then◌else◌, List, [], ◌∷◌, ◌++◌, map, length, get_or, Option, Some, None, refl, sym, ap, ◌∙◌, subst, find, filter, arith, is_some, option_map, AllByRecursion, AllPairs, eq-eqb, common_steps, RootCall, StartDeposit, StartSpend, After, Between, Before, Respond, Finish, Challenge, Exit, is_exit, without_exit, with_exit_changed, challenge_at, deposit_exit, spend_exit, with_challenge, with_answer, with_answer_at, new_challenge, exits, exit_at, start_place, before_place, first_before, was_responded, with_answered, ExitsAreInOrder, ChallengesAreInOrder}
 use Rattle.plasma_tx.proofs.Names.{eqb-flip, find-without, find-started, find-changed, some_same}
 use Rattle.plasma_tx.proofs.Challenged.{challenges_are}
 use Rattle.plasma_tx.proofs.Stands.{same-challenged}
@@ -36,18 +28,11 @@ module _ {X : Type 0} where
 
   all-filter : (P : X → Type 0) (p : X → Bool) (xs : List X) → AllByRecursion P xs → AllByRecursion P (filter p xs)
   all-filter P p [] h = tt
-  all-filter P p (x ∷ xs) h =
-      elim (p x) as (λ b. AllByRecursion P
-      (cond b (x ∷ filter p xs)
-      (filter p xs))) [ true ↦ (h.0, all-filter P p xs h.1) | false ↦ all-filter P p xs h.1 ]
+  all-filter P p (x ∷ xs) h = grind (arith, common_steps, all-filter P p xs h.1) steps 20000
 
   rising-filter : (f : X → ℕ) (top : ℕ) (p : X → Bool) (xs : List X) → Rising f top xs → Rising f top (filter p xs)
   rising-filter f top p [] h = tt
-  rising-filter f top p (x ∷ xs) h =
-      elim (p x) as (λ b. Rising f top (cond b (x ∷ filter p xs) (filter p xs))) [
-        | true ↦ (h.0, all-filter (λ y. f x < f y) p xs h.1, rising-filter f top p xs h.2)
-        | false ↦ rising-filter f top p xs h.2
-      ]
+  rising-filter f top p (x ∷ xs) h = grind (arith, common_steps, rising-filter f top p xs h.2, all-filter) steps 20000
 
   all-map : (f : X → ℕ) (n : ℕ) (h : X → X) → ((x : X) → f (h x) ≡ f x) → (xs : List X)
       → AllByRecursion (λ y. n < f y) xs → AllByRecursion (λ y. n < f y) (map h xs)
@@ -71,12 +56,8 @@ module _ {X : Type 0} where
   rising-push : (f : X → ℕ) (top more : ℕ) → top < more → (xs : List X) (new : X) → f new ≡ top → Rising f top xs
       → Rising f more (xs ++ new ∷ [])
   rising-push f top more lt [] new is h = (omega arith, tt, tt)
-  rising-push f top more lt (x ∷ xs) new is h = (
-    omega (arith, h.0),
-    all-push (λ y. f x < f y) xs new h.1
-        (omega (arith, h.0)),
-    rising-push f top more lt xs new is h.2,
-  )
+  rising-push f top more lt (x ∷ xs) new is h =
+      grind (arith, common_steps, rising-push f top more lt xs new is h.2, all-push, more) steps 20000
 
   all-at : (P : X → Type 0) (xs : List X) → AllByRecursion P xs → (k : ℕ) (d : X) → k < length xs → P (get_or xs k d)
   all-at P [] h k d lt = absurd (omega arith)
@@ -99,17 +80,7 @@ place_in log exit = start_place log exit.coin exit.block
 other_places : (k m top : ℕ) (f : Exit → ℕ) (exits : List Exit)
     → AllByRecursion (λ x. (if (k == x.coin) && (m == x.block) then top else f x) ≡ f x) (without_exit k m exits)
 other_places k m top f [] = tt
-other_places k m top f (x ∷ xs) =
-    (elim (is_exit k m x) as (λ b. is_exit k m x ≡ b
-    → AllByRecursion (λ y. (if (k == y.coin) && (m == y.block) then top else f y) ≡ f y)
-    (cond (not b) (x ∷ without_exit k m xs) (without_exit k m xs))) [
-      | true ↦ λ out. other_places k m top f xs
-      | false ↦ λ kept. (
-        ap (λ (b : Bool). if b then top else f x)
-            ((λ i. (eqb-flip k x.coin i) && (eqb-flip m x.block i)) ∙ kept),
-        other_places k m top f xs,
-      )
-    ]) refl
+other_places k m top f (x ∷ xs) = grind (arith, common_steps, other_places k m top f xs, eqb-flip) steps 20000
 
 rising-started : (k m top more : ℕ) (f : Exit → ℕ) (exits : List Exit) (new : Exit) → top < more → new.coin ≡ k
     → new.block ≡ m → Rising f top exits
@@ -130,14 +101,7 @@ rising-changed : (log : List RootCall) (k m top : ℕ) (change : Exit → Exit) 
     → ((x : Exit) → (change x).block ≡ x.block)
     → (exits : List Exit) → Rising (place_in log) top exits → Rising (place_in log) top
     (with_exit_changed k m change exits)
-rising-changed log k m top change coin block exits h =
-    rising-map (place_in log) top (λ x. if is_exit k m x then change x else x) same exits h
-  where
-    same : (x : Exit) → place_in log (if is_exit k m x then change x else x) ≡ place_in log x
-    same x = elim (is_exit k m x) as (λ b. place_in log (if b then change x else x) ≡ place_in log x) [
-      | true ↦ λ i. start_place log (coin x i) (block x i)
-      | false ↦ refl
-    ]
+rising-changed log k m top change coin block exits h = grind (arith, common_steps, rising-map) steps 20000
 
 rise : (log : List RootCall) → Rising (place_in log) (length log) (exits log)
 unfolding exits start_place
@@ -162,14 +126,8 @@ rise (Before account k m shown ∷ log) =
     (λ x. ap (λ (y : Exit). y.block) (same-challenged new x)) (exits log)
     (rising-more (place_in log) (length log) (suc (length log)) (omega arith) (exits log) (rise log))
 rise (Respond account k m challenged spend ∷ log) =
-    rising-changed log k m (suc (length log)) (with_answer challenged) (λ x. refl) (λ x. refl) (exits log)
-    (rising-more (place_in log) (length log) (suc (length log)) (omega arith) (exits log) (rise log))
-rise (Fund account amount ∷ log) = rising-more (place_in log) (length log) (suc (length log)) (omega arith)
-    (exits log) (rise log)
-rise (Tick time ∷ log) = rising-more (place_in log) (length log) (suc (length log)) (omega arith) (exits log) (rise log)
-rise (Deposit account amount key ∷ log) = rising-more (place_in log) (length log) (suc (length log)) (omega arith)
-    (exits log) (rise log)
-rise (Commit account root ∷ log) = rising-more (place_in log) (length log) (suc (length log)) (omega arith)
+    grind (arith, common_steps, rise log, rising-changed, challenged, rising-more) steps 20000
+rise (call ∷ log) = rising-more (place_in log) (length log) (suc (length log)) (omega arith)
     (exits log) (rise log)
 
 pub exits_are_in_order : ExitsAreInOrder
@@ -186,8 +144,7 @@ each-found P (x ∷ xs) h =
   where
     later : (b : ℕ) → is_some (challenge_at b xs) ≡ true
         → is_some (if x.block == b then Some x else challenge_at b xs) ≡ true
-    later b found = elim (x.block == b) as (λ t. is_some (if t then Some x else challenge_at b xs)
-        ≡ true) [ true ↦ refl | false ↦ found ]
+    later b found = grind (arith, common_steps) steps 20000
 
 module _ (c e : ℕ) where
   -- where the challenge was made
@@ -227,14 +184,11 @@ module _ (c e : ℕ) where
   started : (t : Bool) (place : Challenge → ℕ) (top : ℕ) (new : Exit) (found : Option Exit) → new.challenges ≡ []
       → Rises place top found
       → Rises (λ x. if t then 0 else place x) top (if t then Some new else found)
-  started true place top new found bare h exit is = subst (Rising (λ (x : Challenge). 0) top)
-      (sym bare ∙ ap (λ (x : Exit). x.challenges) (some_same new exit is)) tt
-  started false place top new found bare h exit is = h exit is
+  started t place top new found bare h exit is = grind (arith, common_steps, some_same) steps 20000
 
   ended : (t : Bool) (place : Challenge → ℕ) (top : ℕ) (found : Option Exit) → Rises place top found
       → Rises place top (if t then None else found)
-  ended true place top found h exit is = absurd (cc is)
-  ended false place top found h exit is = h exit is
+  ended t place top found h exit is = grind (arith, common_steps) steps 20000
 
   challenged : (t : Bool) (place : Challenge → ℕ) (top : ℕ) (new : Challenge) (found : Option Exit)
       → ((x : Exit) → found ≡ Some x → is_some (challenge_at new.block x.challenges) ≡ false → place new ≡ top)
@@ -294,8 +248,7 @@ module _ (c e : ℕ) where
       let new = new_challenge log account k m shown in
       let first : (x : Exit) → find (is_exit c e) (exits log) ≡ Some x
       → is_some (challenge_at new.block x.challenges) ≡ false → made_before log new ≡ length log =
-      λ x is none. ap (λ (t : Bool). if t then before_place log c e new.block else length log)
-      (is_first log x is new.block ∙ none) in
+      grind (arith, common_steps, is_first) steps 20000 in
       subst (Rises (made_before log) (suc (length log)))
       (sym (find-changed c e k m (with_challenge new) (λ x. ap (λ (y : Exit). y.coin) (same-challenged new x))
       (λ x. ap (λ (y : Exit). y.block) (same-challenged new x)) (exits log)))
@@ -306,10 +259,7 @@ module _ (c e : ℕ) where
       (sym (find-changed c e k m (with_answer n) (λ x. refl) (λ x. refl) (exits log)))
       (answered ((k == c) && (m == e)) log (suc (length log)) n (find (is_exit c e) (exits log))
       (more (made_before log) (length log) _ (later log (rises log))))
-  rises (Fund account amount ∷ log) = more (made_before log) (length log) _ (later log (rises log))
-  rises (Tick time ∷ log) = more (made_before log) (length log) _ (later log (rises log))
-  rises (Deposit account amount key ∷ log) = more (made_before log) (length log) _ (later log (rises log))
-  rises (Commit account root ∷ log) = more (made_before log) (length log) _ (later log (rises log))
+  rises (call ∷ log) = more (made_before log) (length log) _ (later log (rises log))
 
 pub challenges_are_in_order : ChallengesAreInOrder
 unfolding exit_at

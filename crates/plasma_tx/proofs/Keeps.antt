@@ -1,28 +1,8 @@
 -- What is kept beside the calls stays what the views have.
-use Rattle.std.proofs.Common.{◌≡◌, ℕ, zero, suc, ◌+◌, ◌-◌, ◌==◌, Bool, true, false, cond, ◌||◌, if◌then◌else◌, List, [], ◌∷◌, ◌++◌, length, Option, Some, None, inl, inr, refl, sym, ap, subst, ◌∙◌, arith}
-use Rattle.std.specs.Prelude.{slice_get, unwrap_or}
-use Rattle.std.specs.Map.{lookup}
-use Rattle.std.specs.Ordering.{nat_cmp}
-use Rattle.std.specs.Cmp.Lexicographic.{slice_cmp}
-use Rattle.std.specs.List.{list_any}
+use Rattle.plasma_tx.proofs.Words.{◌≡◌, ℕ, zero, suc, ◌+◌, ◌==◌, Bool, true, cond, ◌||◌, if◌then◌else◌, List, [], ◌∷◌, ◌++◌, length, Some, None, refl, sym, ap, subst, ◌∙◌, arith, slice_get, nat_cmp, slice_cmp, BTreeMap, is_at, BTreeSet, contains, IsOrdered, cases_eq, eq-eqb, ne_eqb, length-append, common_steps, RootCall, Fund, Tick, Deposit, Commit, DepositOf, Root, CoinView, States, Change, now, blocks, coins, block_at, new_coin, coin_at, exits, responses, exits_of, is_withdrawn, has_exits, is_root_committed, deposits_of, no_standing, standing_after, change_of, item_at, standing_in, deposits_in, AreExiting, Keeps}
 use Rattle.std.specs.List.Sorted.{IsStrictlySortedBy}
-use Rattle.std.specs.Str.{bytes_eq}
-use Rattle.std.specs.BTreeMap.{BTreeMap, is_at}
-use Rattle.std.specs.BTreeSet.{BTreeSet, contains, IsOrdered}
-use Rattle.std.proofs.lemmas.Bool.{cases_eq, eq-eqb, ne_eqb}
-use Rattle.std.proofs.lemmas.List.{length-append}
 use Rattle.std.proofs.lemmas.Map.Text.{is_eq-slice_cmp}
-use Rattle.plasma_tx.specs.declared.call.RootCall.{RootCall}
-use Rattle.plasma_tx.specs.declared.call.RootCall.TheVariants.{Fund, Tick, Deposit, Commit, StartDeposit, StartSpend, After, Between, Before, Respond, Finish}
-use Rattle.plasma_tx.specs.declared.views.BlockView.{BlockView}
-use Rattle.plasma_tx.specs.declared.views.BlockView.TheVariants.{DepositOf, Root}
-use Rattle.plasma_tx.specs.declared.views.CoinView.{CoinView}
-use Rattle.plasma_tx.specs.declared.coin_states.States.{States}
-use Rattle.plasma_tx.specs.declared.standing.Change.{Change}
 use Rattle.plasma_tx.specs.declared.kept.Kept.{Kept}
-use Rattle.plasma_tx.specs.Views.{now, blocks, coins, block_at, new_coin, coin_at, exits, responses, exits_of, is_withdrawn, has_exits, is_root_committed, deposits_of}
-use Rattle.plasma_tx.specs.Standing.{no_standing, standing_after, change_of}
-use Rattle.plasma_tx.specs.Keeps.{item_at, standing_in, deposits_in, AreExiting, Keeps}
 use Rattle.plasma_tx.proofs.CoinExits.{after-change}
 
 pub slice_get-push : {X : Type 0} (xs : List X) (x : X) (m : ℕ) → slice_get (xs ++ x ∷ []) m
@@ -31,35 +11,12 @@ slice_get-push [] x zero = refl
 slice_get-push [] x (suc m) = simp (ne_eqb (suc m) 0 (omega arith))
 slice_get-push (y ∷ ys) x zero = simp (ne_eqb 0 (suc (length ys)) (omega arith))
 slice_get-push (y ∷ ys) x (suc m) =
-    elim (cases_eq m (length ys)) [
-      | inl is ↦ slice_get-push ys x m ∙ simp (eq-eqb m (length ys) is, eq-eqb (suc m) (suc (length ys)) (omega arith))
-      | inr isnt ↦ slice_get-push ys x m
-          ∙ simp (ne_eqb m (length ys) isnt, ne_eqb (suc m) (suc (length ys)) (λ e. isnt (omega arith)))
-    ]
+    grind (arith, common_steps, slice_get-push ys x m, cases_eq, eq-eqb, ne_eqb) steps 20000
 
 -- a new item has the next number
 pub item_at-push : {X : Type 0} (items : List X) (item : X) (n : ℕ) → item_at (items ++ item ∷ []) n
     ≡ (if n == length items + 1 then Some item else item_at items n)
-item_at-push items item n =
-    elim (cases_eq n 0) [
-      | inl is ↦ simp (is, ne_eqb 0 (length items + 1) (omega arith))
-      | inr isnt ↦ elim (cases_eq n (length items + 1)) [
-        | inl last ↦ simp (
-          ne_eqb n 0 isnt,
-          eq-eqb n (length items + 1) last,
-          slice_get-push,
-          eq-eqb (n - 1)
-              (length items) (omega arith),
-        )
-        | inr other ↦ simp (
-          ne_eqb n 0 isnt,
-          ne_eqb n (length items + 1) other,
-          slice_get-push,
-          ne_eqb (n - 1)
-              (length items) (λ e. other (omega arith)),
-        )
-      ]
-    ]
+item_at-push items item n = grind (arith, common_steps, cases_eq, ne_eqb, eq-eqb, slice_get-push) steps 20000
 
 -- the same states, and the same coins
 same-exiting : (old new : States) (before after : BTreeSet ℕ)
@@ -70,53 +27,24 @@ same-exiting old new before after states exiting are c =
 
 -- a set with one more root, and a log with one more Commit
 one-more : (at is had has : Bool) → at ≡ is → had ≡ has → cond at true had ≡ (is || has)
-one-more at true had has same before = ap (λ (b : Bool). cond b true had) same
-one-more at false had has same before = ap (λ (b : Bool). cond b true had) same ∙ before
+one-more at is had has same before = grind (arith, common_steps) steps 20000
 
 -- an account with one more coin
 one-more-coin : (account number next : ℕ) (had of : ℕ → List ℕ) (a : ℕ) → number ≡ next
     → ((b : ℕ) → had b ≡ of b)
     → (if a == account then had account ++ number ∷ [] else had a) ≡ (if a == account then of a ++ next ∷ [] else of a)
-one-more-coin account number next had of a is same = elim (cases_eq a account) [
-  | inl here ↦ ap (λ b. if b then had account ++ number ∷ [] else had a) (eq-eqb a account here)
-      ∙ (λ i. same account i ++ is i ∷ []) ∙ ap (λ b. of b ++ next ∷ []) (sym here)
-      ∙ ap (λ b. if b then of a ++ next ∷ [] else of a) (sym (eq-eqb a account here))
-  | inr other ↦ ap (λ b. if b then had account ++ number ∷ [] else had a) (ne_eqb a account other) ∙ same a
-      ∙ ap (λ b. if b then of a ++ next ∷ [] else of a) (sym (ne_eqb a account other))
-]
+one-more-coin account number next had of a is same = grind (arith, common_steps, cases_eq, eq-eqb, ne_eqb) steps 20000
 
 -- each part of what is kept after a call
 pub keeps-Fund : (log : List RootCall) (account amount : ℕ) (old : Kept) → Keeps log old
     → Keeps (Fund account amount ∷ log) old
 unfolding now blocks coins block_at coin_at deposits_of exits responses exits_of is_withdrawn
-keeps-Fund log account amount old k = record {
-  clock = k.clock;
-  block_count = k.block_count;
-  blocks_are = k.blocks_are;
-  coin_count = k.coin_count;
-  coins_are = k.coins_are;
-  states_are = k.states_are;
-  exiting_are = k.exiting_are;
-  exiting_rise = k.exiting_rise;
-  roots_are = k.roots_are;
-  deposits_are = k.deposits_are;
-}
+keeps-Fund log account amount old k = grind (arith, common_steps) steps 20000
 
 pub keeps-Tick : (log : List RootCall) (time : ℕ) (old : Kept) → Keeps log old
     → Keeps (Tick time ∷ log) (record old { clock = time })
 unfolding now blocks coins block_at coin_at deposits_of exits responses exits_of is_withdrawn
-keeps-Tick log time old k = record {
-  clock = refl;
-  block_count = k.block_count;
-  blocks_are = k.blocks_are;
-  coin_count = k.coin_count;
-  coins_are = k.coins_are;
-  states_are = k.states_are;
-  exiting_are = k.exiting_are;
-  exiting_rise = k.exiting_rise;
-  roots_are = k.roots_are;
-  deposits_are = k.deposits_are;
-}
+keeps-Tick log time old k = grind (arith, common_steps) steps 20000
 
 pub keeps-Deposit : (log : List RootCall) (account amount : ℕ) (key : List ℕ) (old new : Kept) (coin : CoinView)
     (number : ℕ)
@@ -136,32 +64,19 @@ pub keeps-Deposit : (log : List RootCall) (account amount : ℕ) (key : List ℕ
 unfolding now blocks coins block_at coin_at deposits_of exits responses exits_of is_withdrawn
 keeps-Deposit log account amount key old new coin number clock states exiting roots made counted coins_are blocks_are
     deposited k =
-    let coin_is : coin ≡ new_coin log account amount key = made
-    ∙ (λ i. record {
-      deposit = k.block_count i + 1;
-      amount = amount;
-      owner =
-          record { account = account; key = key };
-    }) in
+    let coin_is : coin ≡ new_coin log account amount key = grind (arith, common_steps) steps 20000 in
     let number_is : number ≡ coins log + 1 = counted ∙ ap (λ n. n + 1) k.coin_count in
     record {
       clock = clock ∙ k.clock;
-      block_count = ap (λ (l : List BlockView). length l) blocks_are
-          ∙ length-append old.blocks.items (DepositOf number ∷ []) ∙ ap (λ n. n + 1) k.block_count;
-      blocks_are = λ n. ap (λ (l : List BlockView). item_at l n) blocks_are
-          ∙ item_at-push old.blocks.items (DepositOf number) n
-          ∙ (λ i. if n == k.block_count i + 1 then Some (DepositOf (number_is i)) else k.blocks_are n i);
-      coin_count = ap (λ (l : List CoinView). length l) coins_are ∙ length-append old.coins.items (coin ∷ [])
-          ∙ ap (λ n. n + 1) k.coin_count;
-      coins_are = λ c. ap (λ (l : List CoinView). item_at l c) coins_are ∙ item_at-push old.coins.items coin c
-          ∙ (λ i. if c == k.coin_count i + 1 then Some (coin_is i) else k.coins_are c i);
+      block_count = grind (arith, common_steps, length-append) steps 20000;
+      blocks_are = λ n. grind (arith, common_steps, item_at-push) steps 20000;
+      coin_count = grind (arith, common_steps, length-append) steps 20000;
+      coins_are = λ c. grind (arith, common_steps, item_at-push) steps 20000;
       states_are = λ c. states c ∙ k.states_are c;
       exiting_are = same-exiting old.states new.states old.exiting new.exiting states exiting k.exiting_are;
       exiting_rise = subst (λ (s : BTreeSet ℕ). IsOrdered nat_cmp s) (sym exiting) k.exiting_rise;
-      roots_are = λ root. ap (λ (s : BTreeSet (List ℕ)). contains (slice_cmp nat_cmp) s root) roots
-          ∙ k.roots_are root;
-      deposits_are = λ a. deposited a ∙ one-more-coin account number (coins log + 1) _ (deposits_of log) a number_is
-          k.deposits_are;
+      roots_are = grind (arith, common_steps) steps 20000;
+      deposits_are = λ a. grind (arith, common_steps, one-more-coin) steps 20000;
     }
 
 pub keeps-Commit : (log : List RootCall) (account : ℕ) (root : List ℕ) (old new : Kept)
@@ -173,19 +88,15 @@ pub keeps-Commit : (log : List RootCall) (account : ℕ) (root : List ℕ) (old 
 unfolding now blocks coins block_at coin_at deposits_of exits responses exits_of is_withdrawn
 keeps-Commit log account root old new clock states exiting coins_same deposits blocks_are added k = record {
   clock = clock ∙ k.clock;
-  block_count = ap (λ (l : List BlockView). length l) blocks_are ∙ length-append old.blocks.items (Root root ∷ [])
-      ∙ ap (λ n. n + 1) k.block_count;
-  blocks_are = λ n. ap (λ (l : List BlockView). item_at l n) blocks_are ∙ item_at-push old.blocks.items (Root root) n
-      ∙ (λ i. if n == k.block_count i + 1 then Some (Root root) else k.blocks_are n i);
+  block_count = grind (arith, common_steps, length-append) steps 20000;
+  blocks_are = grind (arith, common_steps, item_at-push) steps 20000;
   coin_count = ap (λ (v : _). length v.items) coins_same ∙ k.coin_count;
   coins_are = λ c. ap (λ (v : _). item_at v.items c) coins_same ∙ k.coins_are c;
   states_are = λ c. ap (λ (m : States). standing_in m c) states ∙ k.states_are c;
   exiting_are = same-exiting old.states new.states old.exiting new.exiting
       (λ c. ap (λ (m : States). standing_in m c) states) exiting k.exiting_are;
   exiting_rise = subst (λ (s : BTreeSet ℕ). IsOrdered nat_cmp s) (sym exiting) k.exiting_rise;
-  roots_are = λ other. added other
-      ∙ one-more (is_at (slice_cmp nat_cmp root) other) (bytes_eq root other) _ _ (is_eq-slice_cmp root other)
-      (k.roots_are other);
+  roots_are = grind (arith, common_steps, one-more, is_eq-slice_cmp) steps 20000;
   deposits_are = λ a. ap (λ (m : BTreeMap ℕ (List ℕ)). deposits_in m a) deposits ∙ k.deposits_are a;
 }
 
@@ -201,80 +112,11 @@ record IsQuiet (log : List RootCall) (call : RootCall) : Type 0 where
 
 quiet : (log : List RootCall) (call : RootCall) (p : ℕ × Change) → change_of (now log) call ≡ Some p → IsQuiet log call
 unfolding now blocks coins block_at coin_at deposits_of
-quiet log (StartDeposit account k m) p is =
-    record {
-      clock = refl;
-      blocks_same = refl;
-      block_same = λ n. refl;
-      coins_same = refl;
-      coin_same = λ c. refl;
-      roots_same = λ r. refl;
-      deposits_same = λ a. refl;
-    }
-quiet log (StartSpend account k parent exit) p is =
-    record {
-      clock = refl;
-      blocks_same = refl;
-      block_same = λ n. refl;
-      coins_same = refl;
-      coin_same = λ c. refl;
-      roots_same = λ r. refl;
-      deposits_same = λ a. refl;
-    }
-quiet log (After account k m spend) p is =
-    record {
-      clock = refl;
-      blocks_same = refl;
-      block_same = λ n. refl;
-      coins_same = refl;
-      coin_same = λ c. refl;
-      roots_same = λ r. refl;
-      deposits_same = λ a. refl;
-    }
-quiet log (Between account k m spend) p is =
-    record {
-      clock = refl;
-      blocks_same = refl;
-      block_same = λ n. refl;
-      coins_same = refl;
-      coin_same = λ c. refl;
-      roots_same = λ r. refl;
-      deposits_same = λ a. refl;
-    }
-quiet log (Before account k m shown) p is =
-    record {
-      clock = refl;
-      blocks_same = refl;
-      block_same = λ n. refl;
-      coins_same = refl;
-      coin_same = λ c. refl;
-      roots_same = λ r. refl;
-      deposits_same = λ a. refl;
-    }
-quiet log (Respond account k m n spend) p is =
-    record {
-      clock = refl;
-      blocks_same = refl;
-      block_same = λ n. refl;
-      coins_same = refl;
-      coin_same = λ c. refl;
-      roots_same = λ r. refl;
-      deposits_same = λ a. refl;
-    }
-quiet log (Finish account k m) p is =
-    record {
-      clock = refl;
-      blocks_same = refl;
-      block_same = λ n. refl;
-      coins_same = refl;
-      coin_same = λ c. refl;
-      roots_same = λ r. refl;
-      deposits_same = λ a. refl;
-    }
 quiet log (Fund account amount) p is = absurd (cc is)
 quiet log (Tick time) p is = absurd (cc is)
 quiet log (Deposit account amount key) p is = absurd (cc is)
 quiet log (Commit account root) p is = absurd (cc is)
+quiet log call p is = grind (arith, common_steps) steps 20000
 
 pub keeps-change : (log : List RootCall) (call : RootCall) (coin : ℕ) (change : Change) (old : Kept)
     (states : States) (exiting : BTreeSet ℕ)
@@ -306,23 +148,8 @@ pub keeps-nothing : (kept : Kept) → kept.clock ≡ 0 → kept.blocks.items ≡
     → ((c : ℕ) → standing_in kept.states c ≡ no_standing) → kept.exiting.keys ≡ [] → kept.roots.keys ≡ []
     → kept.deposits.entries ≡ [] → Keeps [] kept
 unfolding now blocks coins block_at coin_at deposits_of exits responses exits_of is_withdrawn IsStrictlySortedBy
-keeps-nothing kept clock no_blocks no_coins no_states no_exits no_roots no_deposits = record {
-  clock = clock;
-  block_count = ap (λ (l : List BlockView). length l) no_blocks;
-  blocks_are = λ n. ap (λ (l : List BlockView). item_at l n) no_blocks ∙ none n;
-  coin_count = ap (λ (l : List CoinView). length l) no_coins;
-  coins_are = λ c. ap (λ (l : List CoinView). item_at l c) no_coins ∙ none c;
-  states_are = no_states;
-  exiting_are = λ c. ap (λ (ks : List ℕ). list_any (is_at (nat_cmp c)) ks) no_exits
-      ∙ sym (λ i. has_exits (no_states c i).exits);
-  exiting_rise = subst (λ (ks : List ℕ). IsStrictlySortedBy nat_cmp ks) (sym no_exits) tt;
-  roots_are = λ root. ap (λ (ks : List (List ℕ)). list_any (is_at (slice_cmp nat_cmp root)) ks) no_roots;
-  deposits_are = λ a. ap (λ (es : List (ℕ × List ℕ)). unwrap_or (lookup (is_at (nat_cmp a)) es) []) no_deposits;
-}
-  where
-    none : {X : Type 0} (n : ℕ) → item_at {X = X} [] n ≡ None
-    none {X} n = let nothing : Option X =
-        None in elim (n == 0) as (λ b. (if b then nothing else nothing) ≡ nothing) [ true ↦ refl | false ↦ refl ]
+keeps-nothing kept clock no_blocks no_coins no_states no_exits no_roots no_deposits =
+    grind (arith, common_steps) steps 20000
 
 -- a call that changes no exit, and is neither a Tick nor a block, changes nothing that is kept
 pub keeps-none : (log : List RootCall) (call : RootCall) (time : ℕ) (old : Kept) → ((t : ℕ) → call ≡ Tick t → ⊥)
@@ -333,10 +160,4 @@ keeps-none log (Fund account amount) time old tick deposit commit is k = keeps-F
 keeps-none log (Tick t) time old tick deposit commit is k = absurd (tick t refl)
 keeps-none log (Deposit account amount key) time old tick deposit commit is k = absurd (deposit account amount key refl)
 keeps-none log (Commit account root) time old tick deposit commit is k = absurd (commit account root refl)
-keeps-none log (StartDeposit account k m) time old tick deposit commit is h = absurd (cc is)
-keeps-none log (StartSpend account k parent exit) time old tick deposit commit is h = absurd (cc is)
-keeps-none log (After account k m spend) time old tick deposit commit is h = absurd (cc is)
-keeps-none log (Between account k m spend) time old tick deposit commit is h = absurd (cc is)
-keeps-none log (Before account k m shown) time old tick deposit commit is h = absurd (cc is)
-keeps-none log (Respond account k m n spend) time old tick deposit commit is h = absurd (cc is)
-keeps-none log (Finish account k m) time old tick deposit commit is h = absurd (cc is)
+keeps-none log call time old tick deposit commit is h = absurd (cc is)

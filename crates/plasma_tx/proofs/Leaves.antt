@@ -1,12 +1,5 @@
 -- The transfer that a leaf spells.
-use Rattle.std.proofs.Common.{◌≡◌, ℕ, ◌==◌, true, false, if◌then◌else◌, List, [], Some, None, Ok, Err, refl, sym, ap, ◌∙◌, subst}
-use Rattle.std.specs.Prelude.{Result}
-use Rattle.std.specs.List.{slice_range}
-use Rattle.std.proofs.lemmas.Bool.{and_parts, eqb-true}
-use Rattle.plasma_tx.specs.declared.signed_tx.SignedTx.{SignedTx}
-use Rattle.plasma_tx.specs.declared.signed_tx.TxRefusal.{TxRefusal}
-use Rattle.plasma_tx.specs.Spelling.{body_in, signed_in}
-use Rattle.plasma_tx.specs.Transfer.{may_stand_in, is_transfer, kept_transfer, transfer_in, named_owner, recipient_in}
+use Rattle.plasma_tx.proofs.Words.{◌≡◌, ℕ, ◌==◌, true, List, [], Some, None, Ok, refl, sym, ap, ◌∙◌, arith, Result, slice_range, and_parts, eqb-true, common_steps, SignedTx, TxRefusal, body_in, signed_in, may_stand_in, is_transfer, kept_transfer, transfer_in, named_owner, recipient_in}
 use Rattle.plasma_tx.proofs.Spellings.{body_in-fits, signed_in-ok}
 
 -- the result is this one
@@ -15,17 +8,7 @@ IsRead r tx = r ≡ Ok tx
 
 kept-some : (coin block : ℕ) (r : Result SignedTx TxRefusal) (tx : SignedTx) → kept_transfer coin block r ≡ Some tx
     → (r ≡ Ok tx) × (is_transfer coin block tx.body ≡ true)
-kept-some coin block (Err why) tx h = absurd (cc h)
-kept-some coin block (Ok t) tx h =
-    (elim (is_transfer coin block t.body) as (λ b. is_transfer coin block t.body ≡ b
-    → (if b then Some t else None) ≡ Some tx → IsRead (Ok t) tx × (is_transfer coin block tx.body ≡ true)) [
-      | true ↦ λ is same. let e : t ≡ tx =
-          some_same t tx same in (ap Ok e, subst (λ x. is_transfer coin block x.body ≡ true) e is)
-      | false ↦ λ isnt wrong. absurd (cc wrong)
-    ]) refl h
-  where
-    some_same : (x y : SignedTx) → Some x ≡ Some y → x ≡ y
-    some_same x y e = cc
+kept-some coin block r tx h = grind (arith, common_steps) steps 20000
 
 pub transfer-read : (tag leaf : List ℕ) (coin block : ℕ) (tx : SignedTx) → transfer_in tag coin block leaf ≡ Some tx
     → (signed_in tag leaf ≡ Ok tx) × (tx.body.tag ≡ tag) × (tx.body.coin ≡ coin) × (may_stand_in block tx.body.last

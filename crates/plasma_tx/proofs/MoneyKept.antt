@@ -1,15 +1,5 @@
 -- No money is made or lost.
-use Rattle.std.proofs.Common.{◌≡◌, ℕ, ◌+◌, ◌<◌, ◌≤◌, Bool, true, false, List, [], ◌∷◌, ◌++◌, Option, Some, None, inl, inr, refl, ap, ◌∙◌, arith}
-use Rattle.std.specs.List.{AllByRecursion}
-use Rattle.plasma_tx.specs.declared.rules.TheConstants.{EXIT_BOND, CHALLENGE_BOND}
-use Rattle.plasma_tx.specs.declared.call.RootCall.{RootCall}
-use Rattle.plasma_tx.specs.declared.call.RootCall.TheVariants.{Fund, Tick, Deposit, Commit, StartDeposit, StartSpend, After, Between, Before, Respond, Finish}
-use Rattle.plasma_tx.specs.declared.views.CoinView.{CoinView}
-use Rattle.plasma_tx.specs.Views.{coin_at, Challenge, Exit, exit_at, is_withdrawn}
-use Rattle.plasma_tx.specs.Shown.{Tests, Rules}
-use Rattle.plasma_tx.specs.Table.{answer_to, is_accepted, IsLegal}
-use Rattle.plasma_tx.specs.Money.{moved, amount_of, open_challenges, challenge_bonds, cancel_pays, payout, finish_pays, pays, takes, exit_bonds, answered_bond, challenge_of, amount_released, finish_releases, releases, share_of, balance_of, held_of, funded, sum_below, callers, AccountsBelow}
-use Rattle.plasma_tx.specs.RuleLaws.{MoneyIsKept, HeldIsOfAccounts, BalancesSuffice, HeldSuffices, BalancesAreCovered}
+use Rattle.plasma_tx.proofs.Words.{◌≡◌, ℕ, ◌+◌, ◌<◌, ◌≤◌, Bool, true, List, [], ◌∷◌, ◌++◌, Option, refl, ◌∙◌, arith, AllByRecursion, common_steps, EXIT_BOND, CHALLENGE_BOND, RootCall, Fund, Deposit, StartDeposit, StartSpend, After, Between, Before, Respond, Finish, CoinView, coin_at, Challenge, Exit, exit_at, is_withdrawn, Tests, Rules, answer_to, is_accepted, IsLegal, moved, amount_of, challenge_bonds, cancel_pays, payout, finish_pays, pays, takes, exit_bonds, amount_released, finish_releases, releases, share_of, balance_of, held_of, funded, sum_below, callers, AccountsBelow, MoneyIsKept, HeldIsOfAccounts, BalancesSuffice, HeldSuffices, BalancesAreCovered}
 use Rattle.plasma_tx.proofs.Accepted.{accepted_calls_show}
 use Rattle.plasma_tx.proofs.Bounds.{funded-le}
 use Rattle.plasma_tx.proofs.Weights.{weight_of, weight_of-append, by_amount, by_share, total, share_of-is}
@@ -47,29 +37,13 @@ held_of-is : (rules : Rules) (log : List RootCall) (account : ℕ) → IsLegal r
 unfolding IsLegal held_of
 held_of-is rules [] account legal = omega (arith, held_weight-none (by_share account))
 held_of-is rules (call ∷ log) account legal =
-    omega (
-      arith,
-      held_of-is rules log account legal.1,
-      held_moves (by_share account) legal.0.0 rules log call legal.1 legal.0.1,
-      share_of-is account (takes call),
-      share_of-is account (releases log call),
-    )
+    grind (arith, common_steps, held_of-is rules log account legal.1, held_moves, by_share, share_of-is) steps 20000
 
 pub held_suffices : HeldSuffices
 unfolding IsLegal share_of
 held_suffices rules log call account legal =
     let moves = held_moves (by_share account) legal.0.0 rules log call legal.1 legal.0.1 in
-    let freed = share_of-is account (releases log call) in
-    elim (one_way log call) [
-      | inl none ↦ omega (
-        arith,
-        moves,
-        freed,
-        ap (weight_of (by_share account)) none,
-        held_of-is rules log account legal.1,
-      )
-      | inr none ↦ omega (arith, ap (share_of account) none)
-    ]
+    grind (arith, common_steps, share_of-is, one_way, weight_of, by_share, held_of-is) steps 20000
 
 held_by_all : (rules : Rules) (n : ℕ) (log : List RootCall) → IsLegal rules log → AccountsBelow n log
     → sum_below (held_of log) n ≡ held_weight by_amount log
@@ -91,21 +65,16 @@ held_is_of_accounts rules n log legal below = held_by_all rules n log legal belo
 -- ---- what is paid is what is let go, and what is funded
 
 even-cancel : (account : ℕ) (found : Option Exit) → total (cancel_pays account found) ≡ total (exit_bonds found)
-even-cancel account None = refl
-even-cancel account (Some exit) = refl
+even-cancel account found = grind (arith, common_steps) steps 20000
 
 even-payout : (exit : Exit) (withdrawn : Bool) (coin : Option CoinView) (challenges : List Challenge)
     → total (payout exit withdrawn (amount_of coin) challenges)
     ≡ total (moved exit.account EXIT_BOND ∷ challenge_bonds challenges ++ amount_released challenges withdrawn coin)
-even-payout exit withdrawn coin (y ∷ ys) = omega (arith, weight_of-append by_amount (challenge_bonds ys) [])
-even-payout exit true coin [] = refl
-even-payout exit false None [] = omega arith
-even-payout exit false (Some coin) [] = omega arith
+even-payout exit withdrawn coin challenges = grind (arith, common_steps, weight_of-append, by_amount) steps 20000
 
 even-finish : (withdrawn : Bool) (coin : Option CoinView) (found : Option Exit)
     → total (finish_pays withdrawn (amount_of coin) found) ≡ total (finish_releases withdrawn coin found)
-even-finish withdrawn coin None = refl
-even-finish withdrawn coin (Some exit) = even-payout exit withdrawn coin (open_challenges exit)
+even-finish withdrawn coin found = grind (arith, common_steps, even-payout) steps 20000
 
 even : (tests : Tests) (rules : Rules) (log : List RootCall) (call : RootCall)
     → is_accepted (answer_to tests rules log call) ≡ true
@@ -116,19 +85,10 @@ even tests rules log (After account c e spend) is = omega (arith, even-cancel ac
 even tests rules log (Between account c e spend) is = omega (arith, even-cancel account (exit_at log c e))
 even tests rules log (Respond account c e challenged spend) is =
     let shown = accepted_calls_show tests rules log (Respond account c e challenged spend) is in
-    omega (
-      arith,
-      ap (λ o. total (answered_bond (challenge_of o challenged))) shown.stands
-          ∙ ap (λ o. total (answered_bond o)) shown.there,
-    )
+    grind (arith, common_steps, total) steps 20000
 even tests rules log (Finish account c e) is =
     omega (arith, even-finish (is_withdrawn log c) (coin_at log c) (exit_at log c e))
-even tests rules log (Tick time) is = refl
-even tests rules log (Deposit account amount key) is = refl
-even tests rules log (Commit account root) is = refl
-even tests rules log (StartDeposit account c block) is = refl
-even tests rules log (StartSpend account c parent exit) is = refl
-even tests rules log (Before account c e shown) is = refl
+even tests rules log call is = refl
 
 funded-none : funded [] ≡ 0
 unfolding funded
@@ -170,13 +130,8 @@ all-below n (account ∷ accounts) less = (omega arith, all-below n accounts (om
 below-above : (account more : ℕ) (log : List RootCall) → AccountsBelow (above account log + more) log
 unfolding above
 below-above account more [] = tt
-below-above account more (call ∷ log) = (
-  all-below _ (callers call) (omega arith),
-  same-below (omega arith) (below-above account (sum_of (callers call) + 1 + more) log),
-)
-  where
-    same-below : {m n : ℕ} → m ≡ n → AccountsBelow m log → AccountsBelow n log
-    same-below e h = rw e at h
+below-above account more (call ∷ log) =
+    grind (arith, common_steps, below-above account (sum_of (callers call) + 1 + more) log, all-below) steps 20000
 
 own-above : (account : ℕ) (log : List RootCall) → account < above account log
 unfolding above

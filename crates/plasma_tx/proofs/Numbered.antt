@@ -1,16 +1,5 @@
 -- The clock is the last Tick; a block's number is its call's place, and a coin's its Deposit's.
-use Rattle.std.proofs.Common.{◌≡◌, ℕ, zero, suc, ◌+◌, ◌==◌, Bool, true, false, if◌then◌else◌, List, [], ◌∷◌, ◌++◌, length, reverse, filter, find, slice_get, Option, Some, None, inl, inr, refl, sym, ap, ◌∙◌, arith}
-use Rattle.std.specs.Option.{option_map_or}
-use Rattle.std.proofs.lemmas.Bool.{cases_eq, eq-eqb, ne_eqb}
-use Rattle.std.proofs.lemmas.List.{length-append, reverse-append, append-nil}
-use Rattle.std.proofs.lemmas.List.Elements.{filter-append}
-use Rattle.plasma_tx.specs.declared.call.RootCall.{RootCall}
-use Rattle.plasma_tx.specs.declared.call.RootCall.TheVariants.{Tick, Deposit, Commit}
-use Rattle.plasma_tx.specs.declared.views.BlockView.{BlockView}
-use Rattle.plasma_tx.specs.declared.views.BlockView.TheVariants.{DepositOf, Root}
-use Rattle.plasma_tx.specs.declared.views.CoinView.{CoinView}
-use Rattle.plasma_tx.specs.Views.{now, blocks, coins, block_at, new_coin, coin_at}
-use Rattle.plasma_tx.specs.Laws.{is_tick, time_of, ClocksAreTicks, is_block_call, block_calls, blocks_made, coins_made, AreNumbered, BlocksAreCalls, CoinsAreDeposits}
+use Rattle.plasma_tx.proofs.Words.{◌≡◌, ℕ, ◌+◌, ◌==◌, if◌then◌else◌, List, [], ◌∷◌, ◌++◌, length, slice_get, Option, Some, None, refl, sym, ap, ◌∙◌, arith, cases_eq, eq-eqb, ne_eqb, length-append, reverse-append, append-nil, filter-append, common_steps, RootCall, Tick, Deposit, Commit, BlockView, Root, now, blocks, coins, block_at, coin_at, ClocksAreTicks, is_block_call, block_calls, blocks_made, coins_made, BlocksAreCalls, CoinsAreDeposits}
 use Rattle.plasma_tx.proofs.Keeps.{slice_get-push}
 
 -- ---- the clock
@@ -26,9 +15,7 @@ clocks-are (call ∷ log) = clocks-are log
 -- the calls of a longer log are those of the log, and its new call where that makes a block
 calls-cons : (call : RootCall) (log : List RootCall)
     → block_calls (call ∷ log) ≡ block_calls log ++ (if is_block_call call then call ∷ [] else [])
-calls-cons call log =
-    ap (filter is_block_call) (reverse-append (call ∷ []) log)
-    ∙ filter-append is_block_call (reverse log) (call ∷ [])
+calls-cons call log = grind (arith, common_steps, reverse-append, filter-append) steps 20000
 
 -- the coins made by calls that end in others
 coins-append : (n : ℕ) (calls others : List RootCall)
@@ -36,14 +23,8 @@ coins-append : (n : ℕ) (calls others : List RootCall)
 unfolding coins_made
 coins-append n [] others = let e : n ≡ n + 0 = omega arith in ap (λ m. coins_made m others) e
 coins-append n (Deposit account amount key ∷ calls) others =
-    let e : (n + 1) + length calls ≡ n + suc (length calls) = omega arith in
-    let coin : CoinView = record { deposit = n; amount = amount; owner = record { account = account; key = key } } in
-    ap (λ (items : List CoinView). coin ∷ items)
-    (coins-append (n + 1) calls others
-    ∙ ap (λ m. coins_made (n + 1) calls ++ coins_made m others) e)
-coins-append n (call ∷ calls) others =
-    let e : (n + 1) + length calls ≡ n + suc (length calls) = omega arith in
-    coins-append (n + 1) calls others ∙ ap (λ m. coins_made (n + 1) calls ++ coins_made m others) e
+    grind (arith, common_steps, coins-append (n + 1) calls others) steps 20000
+coins-append n (call ∷ calls) others = grind (arith, common_steps, coins-append (n + 1) calls others) steps 20000
 
 -- the blocks too, where the coins are counted
 blocks-append : (c n : ℕ) (calls others : List RootCall)
@@ -51,9 +32,7 @@ blocks-append : (c n : ℕ) (calls others : List RootCall)
 unfolding blocks_made coins_made
 blocks-append c n [] others = let e : c ≡ c + 0 = omega arith in ap (λ m. blocks_made m others) e
 blocks-append c n (Deposit account amount key ∷ calls) others =
-    let e : (c + 1) + length (coins_made (n + 1) calls) ≡ c + suc (length (coins_made (n + 1) calls)) = omega arith in
-    ap (λ (items : List BlockView). DepositOf c ∷ items)
-    (blocks-append (c + 1) (n + 1) calls others ∙ ap (λ m. blocks_made (c + 1) calls ++ blocks_made m others) e)
+    grind (arith, common_steps, blocks-append (c + 1) (n + 1) calls others) steps 20000
 blocks-append c n (Commit account root ∷ calls) others =
     ap (λ (items : List BlockView). Root root ∷ items) (blocks-append c (n + 1) calls others)
 blocks-append c n (call ∷ calls) others = blocks-append c (n + 1) calls others
@@ -64,42 +43,29 @@ pub blocks-count : (log : List RootCall) → blocks log ≡ length (block_calls 
 unfolding blocks
 blocks-count [] = refl
 blocks-count (Deposit account amount key ∷ log) =
-    let call : RootCall = Deposit account amount key in
-    omega (arith, blocks-count log, ap length (calls-cons call log), length-append (block_calls log) (call ∷ []))
+    grind (arith, common_steps, blocks-count log, calls-cons, length-append) steps 20000
 blocks-count (Commit account root ∷ log) =
-    let call : RootCall = Commit account root in
-    omega (arith, blocks-count log, ap length (calls-cons call log), length-append (block_calls log) (call ∷ []))
+    grind (arith, common_steps, blocks-count log, calls-cons, length-append) steps 20000
 blocks-count (call ∷ log) = blocks-count log ∙ ap length (sym (calls-cons call log ∙ append-nil (block_calls log)))
 
 -- what a longer log has made, after what the log has
 coins-cons : (call : RootCall) (log : List RootCall) → coins_made 1 (block_calls (call ∷ log))
     ≡ coins_made 1 (block_calls log)
     ++ coins_made (1 + length (block_calls log)) (if is_block_call call then call ∷ [] else [])
-coins-cons call log =
-    ap (coins_made 1) (calls-cons call log)
-    ∙ coins-append 1 (block_calls log) (if is_block_call call then call ∷ [] else [])
+coins-cons call log = grind (arith, common_steps, calls-cons, coins-append) steps 20000
 
 blocks-cons : (call : RootCall) (log : List RootCall) → blocks_made 1 (block_calls (call ∷ log))
     ≡ blocks_made 1 (block_calls log)
     ++ blocks_made (1 + length (coins_made 1 (block_calls log))) (if is_block_call call then call ∷ [] else [])
-blocks-cons call log =
-    ap (blocks_made 1) (calls-cons call log)
-    ∙ blocks-append 1 1 (block_calls log) (if is_block_call call then call ∷ [] else [])
+blocks-cons call log = grind (arith, common_steps, calls-cons, blocks-append) steps 20000
 
 pub coins-count : (log : List RootCall) → coins log ≡ length (coins_made 1 (block_calls log))
 unfolding coins coins_made
 coins-count [] = refl
 coins-count (Deposit account amount key ∷ log) =
-    let call : RootCall = Deposit account amount key in
-    omega (
-      arith,
-      coins-count log,
-      ap length (coins-cons call log),
-      length-append (coins_made 1 (block_calls log)) (coins_made (1 + length (block_calls log)) (call ∷ [])),
-    )
+    grind (arith, common_steps, coins-count log, coins-cons, length-append) steps 20000
 coins-count (Commit account root ∷ log) =
-    coins-count log
-    ∙ ap length (sym (coins-cons (Commit account root) log ∙ append-nil (coins_made 1 (block_calls log))))
+    grind (arith, common_steps, coins-count log, coins-cons, append-nil) steps 20000
 coins-count (call ∷ log) =
     coins-count log ∙ ap length (sym (coins-cons call log ∙ append-nil (coins_made 1 (block_calls log))))
 
@@ -107,23 +73,9 @@ made-count : (log : List RootCall) → length (blocks_made 1 (block_calls log)) 
 unfolding blocks blocks_made
 made-count [] = refl
 made-count (Deposit account amount key ∷ log) =
-    let call : RootCall = Deposit account amount key in
-    omega (
-      arith,
-      made-count log,
-      ap length (blocks-cons call log),
-      length-append (blocks_made 1 (block_calls log))
-          (blocks_made (1 + length (coins_made 1 (block_calls log))) (call ∷ [])),
-    )
+    grind (arith, common_steps, made-count log, blocks-cons, length-append) steps 20000
 made-count (Commit account root ∷ log) =
-    let call : RootCall = Commit account root in
-    omega (
-      arith,
-      made-count log,
-      ap length (blocks-cons call log),
-      length-append (blocks_made 1 (block_calls log))
-          (blocks_made (1 + length (coins_made 1 (block_calls log))) (call ∷ [])),
-    )
+    grind (arith, common_steps, made-count log, blocks-cons, length-append) steps 20000
 made-count (call ∷ log) =
     ap length (blocks-cons call log ∙ append-nil (blocks_made 1 (block_calls log))) ∙ made-count log
 
@@ -133,25 +85,13 @@ made-count (call ∷ log) =
 push-number : {A : Type 0} (items : List A) (item : A) (count n : ℕ) (before : Option A) → length items ≡ count
     → before ≡ slice_get items n
     → (if n + 1 == count + 1 then Some item else before) ≡ slice_get (items ++ item ∷ []) n
-push-number items item count n before long is = elim (cases_eq n count) [
-  | inl e ↦
-      ap (λ (b : Bool). if b then Some item else before) (eq-eqb (n + 1) (count + 1) (omega arith))
-      ∙ sym (slice_get-push items item n
-      ∙ ap (λ (b : Bool). if b then Some item else slice_get items n) (eq-eqb n (length items) (omega arith)))
-  | inr apart ↦
-      ap (λ (b : Bool). if b then Some item else before) (ne_eqb (n + 1) (count + 1) (λ e. apart (omega arith)))
-      ∙ is
-      ∙ sym (slice_get-push items item n
-      ∙ ap (λ (b : Bool). if b then Some item else slice_get items n)
-      (ne_eqb n (length items) (λ e. apart (omega arith))))
-]
+push-number items item count n before long is =
+    grind (arith, common_steps, cases_eq, eq-eqb, slice_get-push, ne_eqb) steps 20000
 
 coins-none : (log : List RootCall) → coin_at log 0 ≡ None
 unfolding coin_at
 coins-none [] = refl
-coins-none (Deposit account amount key ∷ log) =
-    ap (λ (b : Bool). if b then Some (new_coin log account amount key) else coin_at log 0)
-    (ne_eqb 0 (coins log + 1) (λ e. omega arith)) ∙ coins-none log
+coins-none (Deposit account amount key ∷ log) = grind (arith, common_steps, coins-none log, ne_eqb) steps 20000
 coins-none (call ∷ log) = coins-none log
 
 coins-numbered : (log : List RootCall) (c : ℕ) → coin_at log (c + 1) ≡ slice_get (coins_made 1 (block_calls log)) c
@@ -160,29 +100,16 @@ coins-numbered [] c = refl
 coins-numbered (Deposit account amount key ∷ log) c =
     let made = coins_made 1 (block_calls log) in
     let e : 1 + length (block_calls log) ≡ blocks log + 1 = omega (arith, blocks-count log) in
-    push-number made (new_coin log account amount key) (coins log) c (coin_at log (c + 1)) (sym (coins-count log))
-    (coins-numbered log c)
-    ∙ ap (λ (items : List CoinView). slice_get items c)
-    (sym (coins-cons (Deposit account amount key) log
-    ∙ ap (λ (n : ℕ). made ++ coins_made n (Deposit account amount key ∷ [])) e))
+    grind (arith, common_steps, coins-numbered log c, push-number, coins-count, coins-cons) steps 20000
 coins-numbered (Commit account root ∷ log) c =
-    coins-numbered log c
-    ∙ ap (λ (items : List CoinView). slice_get items c)
-    (sym (coins-cons (Commit account root) log ∙ append-nil (coins_made 1 (block_calls log))))
-coins-numbered (call ∷ log) c =
-    coins-numbered log c
-    ∙ ap (λ (items : List CoinView). slice_get items c)
-    (sym (coins-cons call log ∙ append-nil (coins_made 1 (block_calls log))))
+    grind (arith, common_steps, coins-numbered log c, coins-cons, append-nil) steps 20000
+coins-numbered (call ∷ log) c = grind (arith, common_steps, coins-numbered log c, coins-cons, append-nil) steps 20000
 
 blocks-none : (log : List RootCall) → block_at log 0 ≡ None
 unfolding block_at
 blocks-none [] = refl
-blocks-none (Deposit account amount key ∷ log) =
-    ap (λ (b : Bool). if b then Some (DepositOf (coins log + 1)) else block_at log 0)
-    (ne_eqb 0 (blocks log + 1) (λ e. omega arith)) ∙ blocks-none log
-blocks-none (Commit account root ∷ log) =
-    ap (λ (b : Bool). if b then Some (Root root) else block_at log 0) (ne_eqb 0 (blocks log + 1) (λ e. omega arith))
-    ∙ blocks-none log
+blocks-none (Deposit account amount key ∷ log) = grind (arith, common_steps, blocks-none log, ne_eqb) steps 20000
+blocks-none (Commit account root ∷ log) = grind (arith, common_steps, blocks-none log, ne_eqb) steps 20000
 blocks-none (call ∷ log) = blocks-none log
 
 blocks-numbered : (log : List RootCall) (n : ℕ) → block_at log (n + 1) ≡ slice_get (blocks_made 1 (block_calls log)) n
@@ -191,19 +118,10 @@ blocks-numbered [] n = refl
 blocks-numbered (Deposit account amount key ∷ log) n =
     let made = blocks_made 1 (block_calls log) in
     let e : 1 + length (coins_made 1 (block_calls log)) ≡ coins log + 1 = omega (arith, coins-count log) in
-    push-number made (DepositOf (coins log + 1)) (blocks log) n (block_at log (n + 1)) (made-count log)
-    (blocks-numbered log n)
-    ∙ ap (λ (items : List BlockView). slice_get items n)
-    (sym (blocks-cons (Deposit account amount key) log
-    ∙ ap (λ (c : ℕ). made ++ blocks_made c (Deposit account amount key ∷ [])) e))
+    grind (arith, common_steps, blocks-numbered log n, push-number, made-count, blocks-cons) steps 20000
 blocks-numbered (Commit account root ∷ log) n =
-    push-number (blocks_made 1 (block_calls log)) (Root root) (blocks log) n (block_at log (n + 1)) (made-count log)
-    (blocks-numbered log n)
-    ∙ ap (λ (items : List BlockView). slice_get items n) (sym (blocks-cons (Commit account root) log))
-blocks-numbered (call ∷ log) n =
-    blocks-numbered log n
-    ∙ ap (λ (items : List BlockView). slice_get items n)
-    (sym (blocks-cons call log ∙ append-nil (blocks_made 1 (block_calls log))))
+    grind (arith, common_steps, blocks-numbered log n, push-number, made-count, blocks-cons) steps 20000
+blocks-numbered (call ∷ log) n = grind (arith, common_steps, blocks-numbered log n, blocks-cons, append-nil) steps 20000
 
 -- ---- the laws
 

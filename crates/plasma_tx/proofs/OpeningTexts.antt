@@ -1,21 +1,11 @@
 -- Openings are read as they are written, and have one spelling.
-use Rattle.std.proofs.Common.{◌≡◌, ℕ, ◌+◌, ◌^◌, ◌<◌, ◌≤◌, true, nat_le, List, ◌++◌, Ok, Err, length, take, drop, refl, sym, ap, subst, ◌∙◌, inl, inr, append_assoc, arith}
-use Rattle.std.specs.Prelude.{Result}
-use Rattle.std.specs.Int.{w32, to_be_bytes, from_be_bytes}
-use Rattle.std.specs.List.{All}
-use Rattle.std.proofs.lemmas.Bool.{cases_Bool, le-leb, leb-true}
-use Rattle.std.proofs.lemmas.List.{length-append, take_at, drop_at, length-take-le, length-drop, take-append-drop, drop-drop}
-use Rattle.std.proofs.lemmas.List.Elements.{All-take, All-drop}
-use Rattle.std.proofs.lemmas.Nat.{from_be_bytes-to_be_bytes_4}
+use Rattle.plasma_tx.proofs.Words.{◌≡◌, ℕ, ◌+◌, ◌^◌, ◌<◌, ◌≤◌, true, nat_le, List, ◌++◌, Ok, Err, length, take, drop, refl, sym, ap, subst, ◌∙◌, inl, inr, append_assoc, arith, Result, w32, to_be_bytes, from_be_bytes, All, cases_Bool, le-leb, leb-true, length-append, take_at, drop_at, length-take-le, length-drop, take-append-drop, drop-drop, All-take, All-drop, from_be_bytes-to_be_bytes_4, common_steps, RawOpening, opening_text, raw_of, leaf_length, leaf_in, HasOpeningLength, with_proof, opening_in}
 use Rattle.sparse_merkle.specs.declared.proof.ProofRefusal.{ProofRefusal}
 use Rattle.sparse_merkle.specs.declared.proof.ProofRefusal.TheVariants.{BadLength}
 use Rattle.sparse_merkle.specs.MaskedPath.{MaskedPath, IsMaskedPath, is_canonical, proof_text, has_proof_length, proof_in}
 use Rattle.sparse_merkle.proofs.ProofLaws.{proof_in-text, text-proof_in}
-use Rattle.plasma_tx.specs.declared.opening.RawOpening.{RawOpening}
 use Rattle.plasma_tx.specs.declared.opening.Opening.{Opening}
-use Rattle.plasma_tx.specs.declared.opening.OpeningRefusal.{OpeningRefusal}
 use Rattle.plasma_tx.specs.declared.opening.OpeningRefusal.TheVariants.{Unreadable}
-use Rattle.plasma_tx.specs.Openings.{opening_text, raw_of, leaf_length, leaf_in, HasOpeningLength, with_proof, opening_in}
 use Rattle.plasma_tx.proofs.Parts.{short_number-below, short_number-bytes}
 
 opening_in-parts : (dig : List ℕ → List ℕ) (block : ℕ) (front leaf rest : List ℕ) (proof : MaskedPath)
@@ -64,16 +54,7 @@ HasOpeningLength-read dig bytes shown rest proof same fits behind read =
 with_proof-ok : (block : ℕ) (leaf : List ℕ) (r : Result MaskedPath ProofRefusal) (opening : Opening)
     → with_proof block leaf r ≡ Ok opening
     → (r ≡ Ok opening.proof) × (opening ≡ record { block = block; leaf = leaf; proof = opening.proof })
-with_proof-ok block leaf (Err why) opening h = absurd (cc h)
-with_proof-ok block leaf (Ok proof) opening h =
-    let e = same (record { block = block; leaf = leaf; proof = proof }) opening (Ok opening) (sym h) refl in (
-      ap (λ (o : Opening). Ok o.proof) e,
-      sym e
-          ∙ ap (λ (o : Opening). record { block = block; leaf = leaf; proof = o.proof }) e,
-    )
-  where
-    same : (x y : Opening) (r : Result Opening OpeningRefusal) → r ≡ Ok x → r ≡ Ok y → x ≡ y
-    same x y r d e = cc
+with_proof-ok block leaf r opening h = grind (arith, common_steps) steps 20000
 
 -- what an opening that is read shows of the bytes
 pub record IsRead (dig : List ℕ → List ℕ) (raw : RawOpening) (opening : Opening) : Type 0 where

@@ -1,20 +1,11 @@
 -- Parts of byte strings, and the numbers that they spell.
-use Rattle.std.proofs.Common.{◌≡◌, ℕ, ◌+◌, ◌-◌, ◌^◌, ◌<◌, ◌≤◌, List, ◌++◌, length, get_or, take, drop, refl, sym, ap, ◌∙◌, inl, inr, arith}
-use Rattle.std.specs.List.{slice_range}
-use Rattle.std.specs.Int.{w32, w64, to_be_bytes, from_be_bytes}
+use Rattle.plasma_tx.proofs.Words.{◌≡◌, ℕ, ◌+◌, ◌-◌, ◌^◌, ◌<◌, ◌≤◌, List, ◌++◌, length, get_or, take, drop, refl, sym, ap, ◌∙◌, arith, slice_range, w32, w64, to_be_bytes, from_be_bytes, cases_lt, drop_at, take_all, take-append-le, drop-append-le, length-take-le, length-drop, get_or_past, All-take, All-drop, be_bytes_4, be_bytes_8, from_be_bytes-to_be_bytes_8, common_steps, AreBytes, number_text, number_at}
 use Rattle.std.proofs.Math.Seq.{take-add}
-use Rattle.std.proofs.lemmas.Bool.{cases_lt}
-use Rattle.std.proofs.lemmas.List.{drop_at, take_all, take-append-le, drop-append-le, length-take-le, length-drop, get_or_past}
-use Rattle.std.proofs.lemmas.List.Elements.{All-take, All-drop}
-use Rattle.std.proofs.lemmas.Nat.{be_bytes_4, be_bytes_8, from_be_bytes-to_be_bytes_8}
-use Rattle.plasma_tx.specs.Spelling.{AreBytes, number_text, number_at}
 
 -- a range within the front of a list
 pub range-front : (xs rest : List ℕ) (a b : ℕ) → a ≤ b → b ≤ length xs → slice_range (xs ++ rest) a b
     ≡ slice_range xs a b
-range-front xs rest a b le fits =
-    ap (λ l. take (b - a) l) (drop-append-le a xs rest (omega arith))
-    ∙ take-append-le (b - a) (drop a xs) rest (omega (arith, length-drop a xs))
+range-front xs rest a b le fits = grind (arith, common_steps, drop-append-le, take-append-le, length-drop) steps 20000
 
 -- a range that is the back of a list
 pub range-back : (front part : List ℕ) (a b : ℕ) → length front ≡ a → a + length part ≡ b
@@ -33,10 +24,7 @@ pub bytes-range : (xs : List ℕ) (a b : ℕ) → AreBytes xs → AreBytes (slic
 bytes-range xs a b small = All-take (λ byte. byte < 256) (b - a) (drop a xs) (All-drop (λ byte. byte < 256) a xs small)
 
 pub byte-at : (xs : List ℕ) → AreBytes xs → (i : ℕ) → get_or xs i 0 < 256
-byte-at xs small i = elim (cases_lt i (length xs)) [
-  | inl below ↦ small i 0 below
-  | inr above ↦ let e = get_or_past xs i 0 above in omega (arith, e)
-]
+byte-at xs small i = grind (arith, common_steps, cases_lt, get_or_past) steps 20000
 
 -- ---- numbers
 
@@ -47,10 +35,7 @@ number-below xs small = below (byte-at xs small)
     below h = omega (arith, h 0, h 1, h 2, h 3, h 4, h 5, h 6, h 7)
 
 pub short_number-below : (xs : List ℕ) → AreBytes xs → from_be_bytes w32 xs < 2 ^ 32
-short_number-below xs small = below (byte-at xs small)
-  where
-    below : ((i : ℕ) → get_or xs i 0 < 256) → from_be_bytes w32 xs < 2 ^ 32
-    below h = omega (arith, h 0, h 1, h 2, h 3)
+short_number-below xs small = grind (arith, common_steps, byte-at) steps 20000
 
 -- eight bytes are those of the number that they spell
 pub number-bytes : (xs : List ℕ) → AreBytes xs → length xs ≡ 8 → number_text (from_be_bytes w64 xs) ≡ xs

@@ -1,11 +1,5 @@
 -- No two standing exits have one name, and no two challenges of an exit have one block, in any log.
-use Rattle.std.proofs.Common.{◌≡◌, ℕ, ◌+◌, ◌≤◌, ◌==◌, ◌&&◌, cond, not, Bool, true, false, if◌then◌else◌, List, [], ◌∷◌, ◌++◌, map, Some, refl, ap, subst, find, filter, arith}
-use Rattle.std.specs.Prelude.{is_some}
-use Rattle.std.specs.List.{AllByRecursion}
-use Rattle.std.proofs.lemmas.Bool.{eqb-true, and_parts}
-use Rattle.plasma_tx.specs.declared.call.RootCall.{RootCall}
-use Rattle.plasma_tx.specs.declared.call.RootCall.TheVariants.{Fund, Tick, Deposit, Commit, StartDeposit, StartSpend, After, Between, Before, Respond, Finish}
-use Rattle.plasma_tx.specs.Views.{Challenge, Exit, is_exit, without_exit, with_exit_changed, challenge_at, deposit_exit, spend_exit, with_challenge, with_answer, with_answer_at, new_challenge, exits, exit_at}
+use Rattle.plasma_tx.proofs.Words.{◌≡◌, ℕ, ◌+◌, ◌≤◌, ◌==◌, not, Bool, true, false, if◌then◌else◌, List, [], ◌∷◌, ◌++◌, map, Some, refl, ap, subst, find, filter, arith, is_some, AllByRecursion, eqb-true, and_parts, common_steps, RootCall, StartDeposit, StartSpend, After, Between, Before, Respond, Finish, Challenge, Exit, is_exit, without_exit, with_exit_changed, challenge_at, deposit_exit, spend_exit, with_challenge, with_answer, with_answer_at, new_challenge, exits, exit_at}
 use Rattle.plasma_tx.proofs.Stands.{same-challenged}
 use Rattle.plasma_tx.proofs.Each.{all-found, each-exit}
 
@@ -28,31 +22,19 @@ module _ {X : Type 0} where
   pub count-filter : (p q : X → Bool) (xs : List X) → count p (filter q xs) ≤ count p xs
   unfolding count
   count-filter p q [] = omega arith
-  count-filter p q (x ∷ xs) =
-      elim (q x) as (λ b. count p (cond b (x ∷ filter q xs) (filter q xs)) ≤ one_if (p x) + count p xs) [
-        | true ↦ omega (arith, count-filter p q xs)
-        | false ↦ omega (arith, count-filter p q xs)
-      ]
+  count-filter p q (x ∷ xs) = grind (arith, common_steps, count-filter p q xs) steps 20000
 
   -- none passes where those that pass were taken out
   pub count-out : (p : X → Bool) (xs : List X) → count p (filter (λ x. not (p x)) xs) ≡ 0
   unfolding count
   count-out p [] = refl
-  count-out p (x ∷ xs) =
-      (elim (p x) as (λ b. p x ≡ b
-      → count p (cond (not b) (x ∷ filter (λ y. not (p y)) xs) (filter (λ y. not (p y)) xs)) ≡ 0) [
-        | true ↦ λ is. count-out p xs
-        | false ↦ λ isnt. let none : one_if (p x) ≡ 0 = ap one_if isnt in
-            omega (arith, count-out p xs)
-      ]) refl
+  count-out p (x ∷ xs) = grind (arith, common_steps, count-out p xs) steps 20000
 
   pub count-map : (p : X → Bool) (change : X → X) → ((x : X) → p (change x) ≡ p x) → (xs : List X)
       → count p (map change xs) ≡ count p xs
   unfolding count
   count-map p change same [] = refl
-  count-map p change same (x ∷ xs) =
-      let head : one_if (p (change x)) ≡ one_if (p x) = ap one_if (same x) in
-      omega (arith, count-map p change same xs)
+  count-map p change same (x ∷ xs) = grind (arith, common_steps, count-map p change same xs) steps 20000
 
   -- where none is found, none passes
   pub count-none : (p : X → Bool) (xs : List X) → is_some (find p xs) ≡ false → count p xs ≡ 0
@@ -69,23 +51,13 @@ module _ {X : Type 0} where
   pub filter-none : (p : X → Bool) (xs : List X) → count p xs ≡ 0 → filter (λ x. not (p x)) xs ≡ xs
   unfolding count
   filter-none p [] none = refl
-  filter-none p (x ∷ xs) none =
-      (elim (p x) as (λ b. one_if b + count p xs ≡ 0
-      → cond (not b) (x ∷ filter (λ y. not (p y)) xs) (filter (λ y. not (p y)) xs) ≡ x ∷ xs) [
-        | true ↦ λ wrong. absurd (omega arith)
-        | false ↦ λ rest. ap (λ ys. x ∷ ys) (filter-none p xs (omega arith))
-      ]) none
+  filter-none p (x ∷ xs) none = grind (arith, common_steps, filter-none p xs (omega arith)) steps 20000
 
   pub map-none : (p : X → Bool) (change : X → X) (xs : List X) → count p xs ≡ 0
       → map (λ x. if p x then change x else x) xs ≡ xs
   unfolding count
   map-none p change [] none = refl
-  map-none p change (x ∷ xs) none =
-      (elim (p x) as (λ b. one_if b + count p xs ≡ 0
-      → (if b then change x else x) ∷ map (λ y. if p y then change y else y) xs ≡ x ∷ xs) [
-        | true ↦ λ wrong. absurd (omega arith)
-        | false ↦ λ rest. ap (λ ys. x ∷ ys) (map-none p change xs (omega arith))
-      ]) none
+  map-none p change (x ∷ xs) none = grind (arith, common_steps, map-none p change xs (omega arith)) steps 20000
 
 -- ---- names of exits
 
@@ -107,11 +79,8 @@ distinct-started new xs distinct c e =
           let none : count (is_exit c e) rest ≡ 0 = subst (λ (p : ℕ × ℕ). count (is_exit p.0 p.1) rest
           ≡ 0) (λ i. (eqb-true new.coin c parts.0 i, eqb-true new.block e parts.1 i))
           (count-out (is_exit new.coin new.block) xs) in
-          let one : one_if (is_exit c e new) ≡ 1 = ap one_if named in
-          omega arith
-      | false ↦ λ other.
-          let none : one_if (is_exit c e new) ≡ 0 = ap one_if other in
-          omega (arith, distinct c e, count-filter (is_exit c e) (λ x. not (is_exit new.coin new.block x)) xs)
+          grind (arith, common_steps) steps 20000
+      | false ↦ grind (arith, common_steps, count-filter) steps 20000
     ]) refl
 
 -- a change that keeps coin and block keeps names
@@ -122,10 +91,7 @@ distinct-changed k m change coin block xs distinct c e =
     omega (arith, distinct c e, count-map (is_exit c e) (λ x. if is_exit k m x then change x else x) same xs)
   where
     same : (x : Exit) → is_exit c e (if is_exit k m x then change x else x) ≡ is_exit c e x
-    same x = elim (is_exit k m x) as (λ b. is_exit c e (if b then change x else x) ≡ is_exit c e x) [
-      | true ↦ λ i. (coin x i == c) && (block x i == e)
-      | false ↦ refl
-    ]
+    same x = grind (arith, common_steps) steps 20000
 
 distinct-none : AreDistinct []
 unfolding count
@@ -150,10 +116,7 @@ exits-distinct (Before account k m shown ∷ log) =
     (λ x. ap (λ (y : Exit). y.block) (same-challenged new x)) (exits log) (exits-distinct log)
 exits-distinct (Respond account k m challenged spend ∷ log) =
     distinct-changed k m (with_answer challenged) (λ x. refl) (λ x. refl) (exits log) (exits-distinct log)
-exits-distinct (Fund account amount ∷ log) = exits-distinct log
-exits-distinct (Tick time ∷ log) = exits-distinct log
-exits-distinct (Deposit account amount key ∷ log) = exits-distinct log
-exits-distinct (Commit account root ∷ log) = exits-distinct log
+exits-distinct (call ∷ log) = exits-distinct log
 
 -- ---- blocks of challenges
 
@@ -171,29 +134,11 @@ once-none b = omega arith
 
 once-more : (new : Challenge) (challenges : List Challenge) → is_some (challenge_at new.block challenges) ≡ false
     → ((b : ℕ) → count (is_at b) challenges ≤ 1) → (b : ℕ) → count (is_at b) (challenges ++ new ∷ []) ≤ 1
-once-more new challenges none old b =
-    let added = count-append (is_at b) challenges new in
-    (elim (new.block == b) as (λ t. (new.block == b) ≡ t → count (is_at b) (challenges ++ new ∷ []) ≤ 1) [
-      | true ↦ λ own.
-          let before : count (is_at b) challenges ≡ 0 = subst (λ n. count (is_at n) challenges
-          ≡ 0) (eqb-true new.block b own) (count-none (is_at new.block) challenges none) in
-          let one : one_if (new.block == b) ≡ 1 = ap one_if own in
-          omega arith
-      | false ↦ λ other.
-          let more : one_if (new.block == b) ≡ 0 = ap one_if other in
-          omega (arith, old b)
-    ]) refl
+once-more new challenges none old b = grind (arith, common_steps, count-append, eqb-true, count-none) steps 20000
 
 once-answered : (n : ℕ) (challenges : List Challenge) → ((b : ℕ) → count (is_at b) challenges ≤ 1)
     → (b : ℕ) → count (is_at b) (map (with_answer_at n) challenges) ≤ 1
-once-answered n challenges old b =
-    omega (arith, old b, count-map (is_at b) (with_answer_at n) same challenges)
-  where
-    same : (y : Challenge) → is_at b (with_answer_at n y) ≡ is_at b y
-    same y = elim (y.block == n) as (λ t. is_at b (if t then record y { answered = true } else y) ≡ is_at b y) [
-      | true ↦ refl
-      | false ↦ refl
-    ]
+once-answered n challenges old b = grind (arith, common_steps, count-map) steps 20000
 
 once : (log : List RootCall) → AllByRecursion IsChallengedOnce (exits log)
 unfolding exits

@@ -1,17 +1,9 @@
 -- Owners, bodies and signed transfers are read as they are written, and have one spelling.
-use Rattle.std.proofs.Common.{◌≡◌, ℕ, ◌^◌, ◌<◌, ◌≤◌, Bool, true, false, ◌||◌, nat_lt, List, [], ◌++◌, Option, Some, None, Ok, Err, length, take, drop, refl, sym, ap, ◌∙◌, inl, inr, append_assoc, append-nil, arith}
-use Rattle.std.specs.Prelude.{IfSome, Result}
-use Rattle.std.specs.List.{slice_range}
+use Rattle.plasma_tx.proofs.Words.{◌≡◌, ℕ, ◌^◌, ◌<◌, ◌≤◌, Bool, true, false, ◌||◌, nat_lt, List, [], ◌++◌, Option, Some, None, Ok, Err, length, take, drop, refl, sym, ap, ◌∙◌, inl, inr, append_assoc, append-nil, arith, IfSome, Result, slice_range, cases_Bool, ltb-false, le-ltb, length-append, take_all, take-append-drop, length-drop, drop_at, common_steps, Owner, SignedTx, TxRefusal, number_text, number_at, owner_text, owner_in, first_mark, second_mark, mark_of, common_text, body_text, signed_text, has_first_mark, has_second_mark, body_length, body_at_start, body_in, with_signature, signed_in, IsOwner, IsBody, AreBytes}
 use Rattle.std.specs.Str.{bytes_eq}
-use Rattle.std.proofs.lemmas.Bool.{cases_Bool, ltb-false, le-ltb}
-use Rattle.std.proofs.lemmas.List.{length-append, take_all, take-append-drop, length-drop, drop_at}
 use Rattle.std.proofs.lemmas.Slice.Eq.{bytes_eq-Decides}
-use Rattle.plasma_tx.specs.declared.owner.Owner.{Owner}
 use Rattle.plasma_tx.specs.declared.body.Body.{Body}
-use Rattle.plasma_tx.specs.declared.signed_tx.SignedTx.{SignedTx}
-use Rattle.plasma_tx.specs.declared.signed_tx.TxRefusal.{TxRefusal}
 use Rattle.plasma_tx.specs.declared.signed_tx.TxRefusal.TheVariants.{Short, BadMark, BadTag}
-use Rattle.plasma_tx.specs.Spelling.{number_text, number_at, owner_text, owner_in, first_mark, second_mark, mark_of, common_text, body_text, signed_text, has_first_mark, has_second_mark, body_length, body_at_start, body_in, with_signature, signed_in, IsOwner, IsBody, AreBytes}
 use Rattle.plasma_tx.proofs.Parts.{range-front, range-back, range-join, length-range, bytes-range, number-below, number-bytes, number-in}
 
 -- ---- owners
@@ -159,37 +151,27 @@ module _ (mark tag coin parent to rest : List ℕ) (four : length mark ≡ 4) (t
 
 module _ (body : Body) (h : IsBody body) (rest : List ℕ) where
   mark-long : length (mark_of body.last) ≡ 4
-  mark-long = of body.last
-    where
-      of : (o : Option ℕ) → length (mark_of o) ≡ 4
-      of None = refl
-      of (Some n) = refl
+  mark-long = grind (arith, common_steps) steps 20000
 
   to-long : length (owner_text body.to) ≡ 64
   to-long = length-owner_text body.to h.to
 
   common_text-long : length (common_text body) ≡ 116
-  common_text-long = common-long (mark_of body.last) body.tag (number_text body.coin) (number_text body.parent)
-      (owner_text body.to) rest mark-long h.tag refl refl to-long
+  common_text-long = grind (arith, common_steps, common-long, mark-long, to-long) steps 20000
 
   tag-read : slice_range (common_text body ++ rest) 4 36 ≡ body.tag
-  tag-read = tag-in (mark_of body.last) body.tag (number_text body.coin) (number_text body.parent)
-      (owner_text body.to) rest mark-long h.tag refl refl to-long
+  tag-read = grind (arith, common_steps, tag-in, mark-long, to-long) steps 20000
 
   coin-read : number_at (common_text body ++ rest) 36 ≡ body.coin
   coin-read = number-in (common_text body ++ rest) 36 body.coin h.coin
-      (coin-in (mark_of body.last) body.tag (number_text body.coin) (number_text body.parent)
-      (owner_text body.to) rest mark-long h.tag refl refl to-long)
+      (grind (arith, common_steps, coin-in, mark-long, to-long) steps 20000)
 
   parent-read : number_at (common_text body ++ rest) 44 ≡ body.parent
   parent-read = number-in (common_text body ++ rest) 44 body.parent h.parent
-      (parent-in (mark_of body.last) body.tag (number_text body.coin) (number_text body.parent)
-      (owner_text body.to) rest mark-long h.tag refl refl to-long)
+      (grind (arith, common_steps, parent-in, mark-long, to-long) steps 20000)
 
   to-read : owner_in (slice_range (common_text body ++ rest) 52 116) ≡ body.to
-  to-read = ap owner_in
-      (to-in (mark_of body.last) body.tag (number_text body.coin) (number_text body.parent)
-      (owner_text body.to) rest mark-long h.tag refl refl to-long) ∙ owner_in-text body.to h.to
+  to-read = grind (arith, common_steps, to-in, mark-long, to-long, owner_in-text) steps 20000
 
 signed_in-of : (tag : List ℕ) (coin parent : ℕ) (to : Owner) (last : Option ℕ) (signature : List ℕ)
     → IsBody (record { tag = tag; coin = coin; parent = parent; to = to; last = last })
@@ -240,13 +222,7 @@ signed_in-of tag coin parent to (Some last) signature h =
     let front_long : length (common_text body ++ number_text last) ≡ 124 =
     omega (arith, length-append (common_text body) (number_text last)) in
     let tagged : slice_range whole 4 36 ≡ tag = ap (λ (w : List ℕ). slice_range w 4 36) same ∙ tag-read body h rest in
-    let fits : Fits tag whole =
-    record {
-      long = omega (arith, length-append (common_text body ++ number_text last) signature);
-      marked =
-          refl;
-      tagged = tagged;
-    } in
+    let fits : Fits tag whole = grind (arith, common_steps, length-append) steps 20000 in
     let coin_read : number_at whole 36 ≡ coin = ap (λ (w : List ℕ). number_at w 36) same ∙ coin-read body h rest in
     let parent_read : number_at whole 44 ≡ parent = ap (λ (w : List ℕ). number_at w 44) same
     ∙ parent-read body h rest in
@@ -315,8 +291,7 @@ module _ (bytes : List ℕ) (small : AreBytes bytes) (long : 116 ≤ length byte
   }
 
 marked_first : (first : Bool) → first || false ≡ true → first ≡ true
-marked_first true h = refl
-marked_first false h = h
+marked_first first h = grind (arith, common_steps) steps 20000
 
 -- so they are, and the body is one of the type
 read_is : (tag bytes : List ℕ) → AreBytes bytes → Fits tag bytes

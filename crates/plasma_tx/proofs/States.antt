@@ -1,41 +1,19 @@
 -- A map of coins after a write at one coin, and a list of exits after a change of one.
-use Rattle.std.proofs.Common.{◌≡◌, ℕ, suc, ◌+◌, ◌-◌, ◌<◌, ◌≤◌, ◌==◌, ◌||◌, cond, not, Bool, true, false, if◌then◌else◌, List, [], ◌∷◌, ◌++◌, length, slice_set, slice_index_or, Some, None, inl, inr, refl, sym, ap, ◌∙◌, subst, position, arith}
-use Rattle.std.specs.Prelude.{Result, Ok, Err, Option, OnOk, OnErr, unwrap_or}
-use Rattle.std.specs.List.{list_any, position_or_len}
-use Rattle.std.specs.Ordering.{nat_cmp}
-use Rattle.std.specs.BTreeMap.{BTreeMap, get, is_at}
-use Rattle.std.specs.BTreeSet.{BTreeSet, contains}
-use Rattle.std.proofs.lemmas.Bool.{cases_lt, cases_eq, eq-eqb, ne_eqb, eqb-true, lt-ltb, le-ltb}
-use Rattle.std.proofs.lemmas.List.Folds.{list_any-append}
+use Rattle.plasma_tx.proofs.Words.{◌≡◌, ℕ, suc, ◌+◌, ◌<◌, ◌≤◌, ◌==◌, ◌||◌, cond, not, Bool, true, false, if◌then◌else◌, List, [], ◌∷◌, ◌++◌, length, slice_set, slice_index_or, Some, None, inl, inr, refl, sym, ap, ◌∙◌, subst, position, arith, Result, OnOk, OnErr, unwrap_or, list_any, position_or_len, nat_cmp, BTreeMap, get, is_at, BTreeSet, contains, cases_lt, cases_eq, eq-eqb, ne_eqb, eqb-true, lt-ltb, le-ltb, list_any-append, common_steps, States, ExitView, Standing, AreDistinct, without_view, with_view_changed, with_challenge_view, ChallengeView, has_exits, AreExiting, item_at, other_in, standing_in}
 use Rattle.std.proofs.lemmas.Option.{slice_get_past}
-use Rattle.plasma_tx.specs.declared.coin_states.States.{States}
-use Rattle.plasma_tx.specs.declared.views.ExitView.{ExitView}
-use Rattle.plasma_tx.specs.Standing.{Standing, no_standing, AreDistinct, without_view, with_view_changed, with_challenge_view}
-use Rattle.plasma_tx.specs.declared.views.ChallengeView.{ChallengeView}
-use Rattle.plasma_tx.specs.ChallengeLists.{is_challenged}
-use Rattle.plasma_tx.specs.Views.{has_exits}
-use Rattle.plasma_tx.specs.Keeps.{AreExiting, item_at, other_in, standing_in}
 use Rattle.plasma_tx.proofs.Keeps.{item_at-push}
 use Rattle.plasma_tx.proofs.Names.{eqb-flip, some_same}
 
 -- a number compares as equal to itself alone
 pub is_at-nat : (k c : ℕ) → is_at (nat_cmp k) c ≡ (c == k)
-is_at-nat k c = elim (cases_lt k c) [
-  | inl below ↦ simp (lt-ltb k c below, ne_eqb c k (λ e. absurd (omega arith)))
-  | inr above ↦ elim (cases_eq k c) [
-    | inl same ↦ simp (le-ltb k c above, eq-eqb k c same, eq-eqb c k (sym same))
-    | inr other ↦ simp (le-ltb k c above, ne_eqb k c other, ne_eqb c k (λ e. other (sym e)))
-  ]
-]
+is_at-nat k c = grind (arith, common_steps, cases_lt, lt-ltb, ne_eqb, cases_eq, le-ltb, eq-eqb) steps 20000
 
 -- another coin's state stays, whether memory ran out or not
 pub state-apart : {X Y : Type 0} (old new : States) (k : ℕ) (state : Standing) (result : Result X Y)
     → OnOk result ((c : ℕ) → standing_in new c ≡ (if c == k then state else standing_in old c))
     → OnErr result ((c : ℕ) → standing_in new c ≡ standing_in old c)
     → (c : ℕ) → (c == k) ≡ false → standing_in new c ≡ standing_in old c
-state-apart old new k state (Ok x) ok err c other =
-    ok c ∙ ap (λ (b : Bool). if b then state else standing_in old c) other
-state-apart old new k state (Err e) ok err c other = err c
+state-apart old new k state result ok err c other = grind (arith, common_steps) steps 20000
 
 -- a state and its coin's place among those of which an exit stands, changed together
 pub exiting-changed : (old new : States) (before after : BTreeSet ℕ) (k : ℕ)
@@ -56,23 +34,7 @@ pub standing-added : (made after : List Standing) (others less : BTreeMap ℕ St
     → ((c : ℕ) → is_at (nat_cmp k) c ≡ false → get nat_cmp less c ≡ get nat_cmp others c) → (c : ℕ)
     → unwrap_or (item_at after c) (other_in less c) ≡ unwrap_or (item_at made c) (other_in others c)
 standing-added made after others less state k after_is k_is state_is apart c =
-    ap (λ (l : List Standing). unwrap_or (item_at l c) (other_in less c)) after_is
-    ∙ ap (λ (s : Option Standing). unwrap_or s (other_in less c)) (item_at-push made state c)
-    ∙ (elim (cases_eq c k) [
-      | inl is ↦
-          ap (λ b. unwrap_or (if b then Some state else item_at made c) (other_in less c))
-          (eq-eqb c (length made + 1) (is ∙ k_is))
-          ∙ state_is ∙ ap (λ n. other_in others n) (sym is)
-          ∙ ap (λ (s : Option Standing). unwrap_or s (other_in others c)) (sym (past c (is ∙ k_is)))
-      | inr other ↦
-          ap (λ b. unwrap_or (if b then Some state else item_at made c) (other_in less c))
-          (ne_eqb c (length made + 1) (λ e. other (e ∙ sym k_is)))
-          ∙ ap (λ (s : Option Standing). unwrap_or (item_at made c) (unwrap_or s no_standing))
-          (apart c (is_at-nat k c ∙ ne_eqb c k other))
-    ])
-  where
-    past : (n : ℕ) → n ≡ length made + 1 → item_at made n ≡ None
-    past n is = simp (ne_eqb n 0 (λ e. absurd (omega arith)), slice_get_past made (n - 1) (omega arith))
+    grind (arith, common_steps, item_at-push, cases_eq, eq-eqb, ne_eqb, is_at-nat, slice_get_past) steps 20000
 
 -- ---- lists of exits
 
@@ -124,8 +86,7 @@ changed-absent m change (x ∷ xs) le =
 -- ---- exits stay at blocks of their own
 
 or_parts : (a b : Bool) → (a || b) ≡ false → (a ≡ false) × (b ≡ false)
-or_parts true b wrong = absurd (cc wrong)
-or_parts false b is = (refl, is)
+or_parts a b wrong = grind (arith, common_steps) steps 20000
 
 any-changed : (m k : ℕ) (change : ExitView → ExitView) → ((x : ExitView) → (change x).block ≡ x.block)
     → (exits : List ExitView)
@@ -157,12 +118,7 @@ any-without : (m k : ℕ) (exits : List ExitView) → list_any (λ x. x.block ==
 any-without m k [] h = refl
 any-without m k (x ∷ xs) h =
     let parts = or_parts (x.block == k) (list_any (λ y. y.block == k) xs) h in
-    elim (x.block == m) as (λ b. list_any (λ y. y.block == k)
-    (cond (not b) (x ∷ without_view m xs) (without_view m xs)) ≡ false) [
-      | true ↦ any-without m k xs parts.1
-      | false ↦ ap (λ (b : Bool). b || list_any (λ y. y.block == k) (without_view m xs)) parts.0
-          ∙ any-without m k xs parts.1
-    ]
+    grind (arith, common_steps, any-without m k xs parts.1) steps 20000
 
 pub distinct-without : (m : ℕ) (exits : List ExitView) → AreDistinct exits → AreDistinct (without_view m exits)
 distinct-without m [] h = tt
@@ -175,20 +131,14 @@ distinct-without m (x ∷ xs) h =
 -- no exit at the block is left
 gone : (m : ℕ) (exits : List ExitView) → list_any (λ x. x.block == m) (without_view m exits) ≡ false
 gone m [] = refl
-gone m (x ∷ xs) =
-    (elim (x.block == m) as (λ b. (x.block == m) ≡ b → list_any (λ y. y.block == m)
-    (cond (not b) (x ∷ without_view m xs) (without_view m xs)) ≡ false) [
-      | true ↦ λ out. gone m xs
-      | false ↦ λ kept. ap (λ (b : Bool). b || list_any (λ y. y.block == m) (without_view m xs)) kept ∙ gone m xs
-    ]) refl
+gone m (x ∷ xs) = grind (arith, common_steps, gone m xs) steps 20000
 
 distinct-push : (exits : List ExitView) (new : ExitView) → AreDistinct exits
     → list_any (λ x. x.block == new.block) exits ≡ false → AreDistinct (exits ++ new ∷ [])
 distinct-push [] new h none = (refl, tt)
 distinct-push (x ∷ xs) new h none =
     let parts = or_parts (x.block == new.block) (list_any (λ y. y.block == new.block) xs) none in (
-      list_any-append (λ y. y.block == x.block) xs (new ∷ [])
-          ∙ (λ i. h.0 i || ((eqb-flip new.block x.block ∙ parts.0) i || false)),
+      grind (arith, common_steps, list_any-append, eqb-flip) steps 20000,
       distinct-push xs new h.1 parts.1,
     )
 
@@ -203,36 +153,13 @@ pub changed-place : (m : ℕ) (change : ExitView → ExitView) (exits : List Exi
     → Some place ≡ position (λ x. x.block == m) exits → item ≡ slice_index_or exits place item → new ≡ change item
     → slice_set exits place new ≡ with_view_changed m change exits
 changed-place m change exits place item new distinct found at is =
-    let p : ℕ = position_or_len (λ x. x.block == m) exits in
-    elim (cases_lt p (length exits)) [
-      | inl below ↦
-          let same : p ≡ place = some_same p place (simp (lt-ltb p (length exits) below) at (sym found)) in
-          ap (λ v. slice_set exits place v) (is ∙ ap change at)
-          ∙ ap (λ n. slice_set exits n (change (slice_index_or exits n item))) (sym same)
-          ∙ changed-at m change exits item distinct below
-      | inr above ↦ absurd (none_some place (simp (le-ltb p (length exits) above) at (sym found)))
-    ]
-  where
-    none_some : (x : ℕ) → None ≡ Some x → ⊥
-    none_some x e = cc
+    grind (arith, common_steps, cases_lt, some_same, lt-ltb, changed-at, le-ltb) steps 20000
 
 -- none is changed where none is found
 pub changed-nowhere : (m : ℕ) (change : ExitView → ExitView) (exits : List ExitView)
     → None ≡ position (λ x. x.block == m) exits → exits ≡ with_view_changed m change exits
-changed-nowhere m change exits found =
-    let p : ℕ = position_or_len (λ x. x.block == m) exits in
-    elim (cases_lt p (length exits)) [
-      | inl below ↦ absurd (some_none p (simp (lt-ltb p (length exits) below) at (sym found)))
-      | inr above ↦ sym (changed-absent m change exits above)
-    ]
-  where
-    some_none : (x : ℕ) → Some x ≡ None → ⊥
-    some_none x e = cc
+changed-nowhere m change exits found = grind (arith, common_steps, cases_lt, lt-ltb, changed-absent) steps 20000
 
 -- a challenge keeps the exit's block
 pub same_block : (challenge : ChallengeView) (exit : ExitView) → (with_challenge_view challenge exit).block ≡ exit.block
-same_block challenge exit =
-    elim (is_challenged challenge.block exit.challenges) as (λ b. (if b then exit else record exit {
-      challenges =
-          exit.challenges ++ challenge ∷ [];
-    }).block ≡ exit.block) [ true ↦ refl | false ↦ refl ]
+same_block challenge exit = grind (arith, common_steps) steps 20000

@@ -1,9 +1,5 @@
 -- Sums over numbers, and the shares of movements in them.
-use Rattle.std.proofs.Common.{◌≡◌, ℕ, zero, suc, ◌+◌, ◌-◌, ◌<◌, ◌≤◌, ◌≢◌, ◌==◌, if◌then◌else◌, List, [], ◌∷◌, inl, inr, refl, sym, ◌∙◌, subst, arith, add-one}
-use Rattle.std.specs.List.{AllByRecursion}
-use Rattle.std.proofs.lemmas.Bool.{cases_eq, eq-eqb, ne_eqb}
-use Rattle.plasma_tx.specs.declared.movement.Movement.{Movement}
-use Rattle.plasma_tx.specs.Money.{moved, share_of, sum_below}
+use Rattle.plasma_tx.proofs.Words.{◌≡◌, ℕ, zero, suc, ◌+◌, ◌-◌, ◌<◌, ◌≤◌, ◌≢◌, ◌==◌, if◌then◌else◌, List, [], ◌∷◌, inl, inr, refl, sym, ◌∙◌, subst, arith, add-one, AllByRecursion, cases_eq, eq-eqb, ne_eqb, common_steps, Movement, moved, share_of, sum_below}
 use Rattle.plasma_tx.proofs.Weights.{total}
 
 pub sum_below-same : (f g : ℕ → ℕ) (n : ℕ) → ((k : ℕ) → k < n → f k ≡ g k) → sum_below f n ≡ sum_below g n
@@ -43,8 +39,7 @@ unfolding sum_below
 sum_below-at f g zero i below same = absurd (omega arith)
 sum_below-at f g (suc n) i below same =
     elim (cases_eq i n) [
-      | inl is ↦ subst (λ m. sum_below f n + f n + g m
-          ≡ sum_below g n + g n + f m) (sym is) (omega (arith, sum_below-same f g n (λ k h. same k (omega arith))))
+      | inl is ↦ grind (arith, common_steps, sum_below-same) steps 20000
       | inr isnt ↦ omega (arith, sum_below-at f g n i (omega arith) same, same n (λ e. isnt (sym e)))
     ]
 
@@ -91,9 +86,4 @@ sum_below-moved n f to from enough below_to below_from =
 pub share_of-le : (f : ℕ → ℕ) (account amount : ℕ) → amount ≤ f account → (a : ℕ)
     → share_of a (moved account amount ∷ []) ≤ f a
 unfolding share_of
-share_of-le f account amount enough a =
-    elim (cases_eq account a) [
-      | inl same ↦ subst (λ b. (if account == b then amount else 0) + 0 ≤ f b) same
-          (simp (eq-eqb account account refl) (omega arith))
-      | inr apart ↦ simp (ne_eqb account a apart) (omega arith)
-    ]
+share_of-le f account amount enough a = grind (arith, common_steps, cases_eq, eq-eqb, ne_eqb) steps 20000

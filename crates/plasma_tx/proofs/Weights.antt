@@ -1,12 +1,5 @@
 -- Lists of movements, and of exits, weighed: the weight of a movement is its amount, or what an account has of it.
-use Rattle.std.proofs.Common.{◌≡◌, ℕ, ◌+◌, ◌*◌, ◌≤◌, ◌==◌, ◌&&◌, cond, not, Bool, true, false, if◌then◌else◌, List, [], ◌∷◌, ◌++◌, map, length, Option, Some, None, refl, ap, ◌∙◌, find, filter, arith}
-use Rattle.std.specs.Prelude.{is_some}
-use Rattle.std.specs.List.{list_all}
-use Rattle.plasma_tx.specs.declared.rules.TheConstants.{EXIT_BOND, CHALLENGE_BOND}
-use Rattle.plasma_tx.specs.declared.movement.Movement.{Movement}
-use Rattle.plasma_tx.specs.declared.views.CoinView.{CoinView}
-use Rattle.plasma_tx.specs.Views.{Challenge, Exit, is_exit, without_exit, with_exit_changed, challenge_at, with_challenge, with_answer, with_answer_at}
-use Rattle.plasma_tx.specs.Money.{moved, challenge_bonds, exit_bonds, amount_of, amount_released, share_of, bonds}
+use Rattle.plasma_tx.proofs.Words.{◌≡◌, ℕ, ◌+◌, ◌*◌, ◌≤◌, ◌==◌, cond, not, Bool, true, false, if◌then◌else◌, List, [], ◌∷◌, ◌++◌, map, length, Option, Some, None, refl, ap, find, filter, arith, is_some, list_all, common_steps, EXIT_BOND, CHALLENGE_BOND, Movement, CoinView, Challenge, Exit, is_exit, without_exit, with_exit_changed, challenge_at, with_challenge, with_answer, with_answer_at, moved, challenge_bonds, exit_bonds, amount_of, amount_released, share_of, bonds}
 use Rattle.plasma_tx.proofs.Each.{some_same}
 use Rattle.plasma_tx.proofs.RuleNames.{count, filter-none, map-none, count-none, is_at}
 
@@ -50,14 +43,7 @@ module _ (w : Movement → ℕ) where
       → weight_of w (challenge_bonds (filter (λ challenge. not challenge.answered) challenges)) ≡ open_weight challenges
   unfolding open_weight
   open_weight-is [] = refl
-  open_weight-is (y ∷ ys) =
-      elim (y.answered) as (λ b. weight_of w
-      (challenge_bonds (cond (not b) (y ∷ filter (λ (x : Challenge). not x.answered) ys)
-      (filter (λ (x : Challenge). not x.answered) ys))) ≡ (if b then 0 else w (moved y.by CHALLENGE_BOND))
-      + open_weight ys) [
-        | true ↦ omega (arith, open_weight-is ys)
-        | false ↦ omega (arith, open_weight-is ys)
-      ]
+  open_weight-is (y ∷ ys) = grind (arith, common_steps, open_weight-is ys) steps 20000
 
   open_weight-append : (challenges : List Challenge) (new : Challenge)
       → open_weight (challenges ++ new ∷ []) ≡ open_weight challenges + bond_weight new
@@ -82,9 +68,7 @@ module _ (w : Movement → ℕ) where
         | true ↦ λ few same.
             let rest : map (with_answer_at block) ys ≡ ys =
             map-none (is_at block) (λ (x : Challenge). record x { answered = true }) ys (omega arith) in
-            let this : bond_weight y ≡ w (moved one.by CHALLENGE_BOND) =
-            ap (λ (x : Challenge). bond_weight x) (some_same y one same) ∙ bond_weight-open one is in
-            omega (arith, ap (λ xs. open_weight xs) rest)
+            grind (arith, common_steps, some_same, bond_weight-open) steps 20000
         | false ↦ λ few later. omega (arith, open_weight-answered block ys one (omega arith) later is)
       ]) once there
 
@@ -105,9 +89,7 @@ module _ (w : Movement → ℕ) where
       → is_some (challenge_at new.block exit.challenges) ≡ false → new.answered ≡ false
       → exit_weight (with_challenge new exit) ≡ exit_weight exit + w (moved new.by CHALLENGE_BOND)
   exit_weight-challenged exit new none is =
-      let pushed : Exit = record exit { challenges = exit.challenges ++ new ∷ [] } in
-      ap (λ (b : Bool). exit_weight (if b then exit else pushed)) none
-      ∙ omega (arith, open_weight-append exit.challenges new, bond_weight-open new is)
+      grind (arith, common_steps, open_weight-append, bond_weight-open) steps 20000
 
   pub exit_weight-answered : (exit : Exit) (block : ℕ) (one : Challenge) → count (is_at block) exit.challenges ≤ 1
       → challenge_at block exit.challenges ≡ Some one → one.answered ≡ false
@@ -134,12 +116,7 @@ module _ (w : Movement → ℕ) where
   exits_weight-started new exits none bare =
       let same : without_exit new.coin new.block exits ≡ exits = filter-none (is_exit new.coin new.block) exits
       (count-none (is_exit new.coin new.block) exits (ap is_some none)) in
-      omega (
-        arith,
-        exits_weight-append (without_exit new.coin new.block exits) new,
-        ap (λ xs. exits_weight xs) same,
-        exit_weight-new new bare,
-      )
+      grind (arith, common_steps, exits_weight-append, exit_weight-new) steps 20000
 
   -- one of distinct exits is taken out
   pub exits_weight-without : (c e : ℕ) (exits : List Exit) (t : Exit) → count (is_exit c e) exits ≤ 1
@@ -196,13 +173,7 @@ module _ (w : Movement → ℕ) where
   amount_released-is [] false None = refl
   amount_released-is [] false (Some coin) = omega arith
   amount_released-is (y ∷ ys) withdrawn coin =
-      elim (y.answered) as (λ b. weight_of w
-      (amount_released (cond (not b) (y ∷ filter (λ (x : Challenge). not x.answered) ys)
-      (filter (λ (x : Challenge). not x.answered) ys)) withdrawn coin)
-      ≡ (if b && list_all (λ (x : Challenge). x.answered) ys then (if withdrawn then 0 else coin_weight coin) else 0)) [
-        | true ↦ amount_released-is ys withdrawn coin
-        | false ↦ refl
-      ]
+      grind (arith, common_steps, amount_released-is ys withdrawn coin) steps 20000
 
 -- ---- weights by amounts
 
@@ -211,13 +182,7 @@ open_weight-amounts : (challenges : List Challenge)
     ≡ CHALLENGE_BOND * length (filter (λ challenge. not challenge.answered) challenges)
 unfolding open_weight
 open_weight-amounts [] = refl
-open_weight-amounts (y ∷ ys) =
-    elim (y.answered) as (λ b. (if b then 0 else CHALLENGE_BOND) + open_weight by_amount ys
-    ≡ CHALLENGE_BOND * length (cond (not b) (y ∷ filter (λ (x : Challenge). not x.answered) ys)
-    (filter (λ (x : Challenge). not x.answered) ys))) [
-      | true ↦ omega (arith, open_weight-amounts ys)
-      | false ↦ omega (arith, open_weight-amounts ys)
-    ]
+open_weight-amounts (y ∷ ys) = grind (arith, common_steps, open_weight-amounts ys) steps 20000
 
 pub exits_weight-amounts : (exits : List Exit) → exits_weight by_amount exits ≡ bonds exits
 unfolding exits_weight bonds
@@ -225,5 +190,4 @@ exits_weight-amounts [] = refl
 exits_weight-amounts (x ∷ xs) = omega (arith, open_weight-amounts x.challenges, exits_weight-amounts xs)
 
 pub coin_weight-amount : (coin : Option CoinView) → coin_weight by_amount coin ≡ amount_of coin
-coin_weight-amount None = refl
-coin_weight-amount (Some coin) = refl
+coin_weight-amount coin = grind (arith, common_steps) steps 20000

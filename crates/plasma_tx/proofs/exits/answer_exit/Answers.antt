@@ -1,6 +1,4 @@
-use Rattle.std.proofs.Common.{◌==◌, List, position, sym, ap, ◌∙◌}
-use Rattle.plasma_tx.specs.declared.views.ExitView.{ExitView}
-use Rattle.plasma_tx.specs.Standing.{with_answer_view}
+use Rattle.plasma_tx.proofs.Words.{◌==◌, List, position, sym, ap, ◌∙◌, ExitView, with_answer_view}
 use Rattle.plasma_tx.proofs.States.{changed-place, changed-nowhere}
 use Rattle.plasma_tx.proofs.exits.answer_exit.Goals as goal
 

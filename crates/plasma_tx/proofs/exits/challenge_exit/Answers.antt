@@ -1,6 +1,4 @@
-use Rattle.std.proofs.Common.{◌==◌, ◌++◌, ◌∷◌, [], Bool, if◌then◌else◌, List, position, sym, ap, ◌∙◌}
-use Rattle.plasma_tx.specs.declared.views.ExitView.{ExitView}
-use Rattle.plasma_tx.specs.Standing.{with_challenge_view}
+use Rattle.plasma_tx.proofs.Words.{◌==◌, ◌++◌, ◌∷◌, [], Bool, if◌then◌else◌, List, position, sym, ap, ◌∙◌, ExitView, with_challenge_view}
 use Rattle.plasma_tx.proofs.States.{changed-place, changed-nowhere}
 use Rattle.plasma_tx.proofs.exits.challenge_exit.Goals as goal
 

@@ -1,5 +1,4 @@
-use Rattle.std.proofs.Common.{rules, not, ◌==◌}
-use Rattle.std.proofs.lemmas.Fn.{filter_same}
+use Rattle.plasma_tx.proofs.Words.{rules, not, ◌==◌, filter_same}
 use Rattle.plasma_tx.proofs.exits.remove_exit.Goals as goal
 
 pub returns-clause-exits : goal.returns-clause-exits

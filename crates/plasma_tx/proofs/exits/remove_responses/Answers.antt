@@ -1,6 +1,4 @@
-use Rattle.std.proofs.Common.{rules, not}
-use Rattle.std.proofs.lemmas.Fn.{filter_same}
-use Rattle.plasma_tx.specs.Views.{is_response_to}
+use Rattle.plasma_tx.proofs.Words.{rules, not, filter_same, is_response_to}
 use Rattle.plasma_tx.proofs.exits.remove_responses.Goals as goal
 
 pub returns : goal.returns

@@ -1,7 +1,4 @@
-use Rattle.std.proofs.Common.{List, ℕ, ap, ◌∙◌}
-use Rattle.std.specs.List.{list_any}
-use Rattle.std.specs.Ordering.{nat_cmp}
-use Rattle.std.specs.BTreeMap.{is_at}
+use Rattle.plasma_tx.proofs.Words.{List, ℕ, ap, ◌∙◌, list_any, nat_cmp, is_at}
 use Rattle.plasma_tx.proofs.States.{state-apart, exiting-changed}
 use Rattle.plasma_tx.proofs.kept.change_coin.Goals as goal
 

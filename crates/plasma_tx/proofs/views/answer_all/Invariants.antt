@@ -1,5 +1,4 @@
-use Rattle.std.proofs.Common.{◌≡◌, ◌++◌, map, take, drop}
-use Rattle.plasma_tx.specs.ChallengeLists.{view_with_answer_at}
+use Rattle.plasma_tx.proofs.Words.{◌≡◌, ◌++◌, map, take, drop, view_with_answer_at}
 use Rattle.plasma_tx.proofs.views.answer_all.Given as goal
 
 abbrev pub invariant-loop-challenge : goal.invariant-loop-challenge

@@ -1,7 +1,4 @@
-use Rattle.std.proofs.Common.{◌≡◌, ◌+◌, ◌++◌, ◌∷◌, [], List, length, sym, ap, ◌∙◌, arith}
-use Rattle.std.specs.Prelude.{Option, unwrap_or}
-use Rattle.plasma_tx.specs.Standing.{Standing, no_standing}
-use Rattle.plasma_tx.specs.Keeps.{other_in}
+use Rattle.plasma_tx.proofs.Words.{◌≡◌, ◌+◌, ◌++◌, ◌∷◌, [], List, length, sym, ap, ◌∙◌, arith, Option, unwrap_or, Standing, no_standing, other_in}
 use Rattle.plasma_tx.proofs.States.{standing-added}
 use Rattle.plasma_tx.proofs.coin_states.States.add.Goals as goal
 use Rattle.plasma_tx.proofs.coin_states.States.add.Goals.{in-Some, in-None}

@@ -1,13 +1,4 @@
-use Rattle.std.proofs.Common.{◌++◌, ◌∷◌, [], ℕ, List, length, refl, ap, ◌∙◌}
-use Rattle.std.specs.Prelude.{Result, Ok, Err, OnErr}
-use Rattle.std.specs.Cmp.Lexicographic.{slice_cmp}
-use Rattle.std.specs.List.{list_any}
-use Rattle.std.specs.Ordering.{nat_cmp}
-use Rattle.std.specs.BTreeMap.{is_at}
-use Rattle.plasma_tx.specs.declared.call.RootCall.{RootCall}
-use Rattle.plasma_tx.specs.declared.views.BlockView.{BlockView}
-use Rattle.plasma_tx.specs.declared.views.BlockView.TheVariants.{Root}
-use Rattle.plasma_tx.specs.Keeps.{item_at, Keeps}
+use Rattle.plasma_tx.proofs.Words.{◌++◌, ◌∷◌, [], ℕ, List, length, refl, ap, ◌∙◌, Result, Ok, Err, OnErr, slice_cmp, list_any, nat_cmp, is_at, RootCall, BlockView, Root, item_at, Keeps}
 use Rattle.plasma_tx.proofs.Keeps.{keeps-Commit}
 use Rattle.plasma_tx.proofs.kept.Kept.commit.Goals as goal
 

@@ -1,7 +1,4 @@
-use Rattle.std.proofs.Common.{◌≡◌, ◌+◌, ◌++◌, ◌∷◌, [], List, length, refl, ap, ◌∙◌, arith}
-use Rattle.plasma_tx.specs.declared.views.BlockView.{BlockView}
-use Rattle.plasma_tx.specs.declared.views.BlockView.TheVariants.{DepositOf}
-use Rattle.plasma_tx.specs.declared.views.CoinView.{CoinView}
+use Rattle.plasma_tx.proofs.Words.{◌≡◌, ◌+◌, ◌++◌, ◌∷◌, [], List, length, refl, ap, ◌∙◌, arith, BlockView, DepositOf, CoinView}
 use Rattle.plasma_tx.proofs.Keeps.{keeps-Deposit}
 use Rattle.plasma_tx.proofs.kept.Kept.deposit.Goals as goal
 

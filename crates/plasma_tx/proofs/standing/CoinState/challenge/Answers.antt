@@ -1,5 +1,4 @@
-use Rattle.std.proofs.Common.{refl}
-use Rattle.plasma_tx.specs.Standing.{standing_after, with_challenge_view}
+use Rattle.plasma_tx.proofs.Words.{refl, standing_after, with_challenge_view}
 use Rattle.plasma_tx.proofs.States.{distinct-changed, same_block}
 use Rattle.plasma_tx.proofs.standing.CoinState.challenge.Goals as goal
 

@@ -1,5 +1,4 @@
-use Rattle.std.proofs.Common.{refl}
-use Rattle.plasma_tx.specs.Standing.{standing_after}
+use Rattle.plasma_tx.proofs.Words.{refl, standing_after}
 use Rattle.plasma_tx.proofs.States.{distinct-without}
 use Rattle.plasma_tx.proofs.standing.CoinState.end.Goals as goal
 

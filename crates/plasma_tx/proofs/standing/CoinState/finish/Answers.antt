@@ -1,6 +1,4 @@
-use Rattle.std.proofs.Common.{◌≡◌, ◌==◌, ◌||◌, Bool, sym, ap, ◌∙◌, find}
-use Rattle.plasma_tx.specs.Standing.{standing_after, without_view, has_no_open_view}
-use Rattle.plasma_tx.specs.Views.{without_responses}
+use Rattle.plasma_tx.proofs.Words.{◌≡◌, ◌==◌, ◌||◌, Bool, sym, ap, ◌∙◌, find, standing_after, without_view, has_no_open_view, without_responses}
 use Rattle.plasma_tx.proofs.States.{distinct-without}
 use Rattle.plasma_tx.proofs.standing.CoinState.finish.Goals as goal
 use Rattle.plasma_tx.proofs.standing.CoinState.finish.Goals.{then-has_no_open_challenge, else-has_no_open_challenge}

@@ -1,5 +1,4 @@
-use Rattle.std.proofs.Common.{refl}
-use Rattle.plasma_tx.specs.Standing.{standing_after, with_answer_view}
+use Rattle.plasma_tx.proofs.Words.{refl, standing_after, with_answer_view}
 use Rattle.plasma_tx.proofs.States.{distinct-changed}
 use Rattle.plasma_tx.proofs.standing.CoinState.respond.Goals as goal
 

@@ -1,5 +1,4 @@
-use Rattle.std.proofs.Common.{refl, arith}
-use Rattle.plasma_tx.specs.Standing.{standing_after}
+use Rattle.plasma_tx.proofs.Words.{refl, arith, standing_after}
 use Rattle.plasma_tx.proofs.States.{distinct-started}
 use Rattle.plasma_tx.proofs.standing.CoinState.start.Goals as goal
 
