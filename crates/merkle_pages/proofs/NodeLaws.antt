@@ -1,16 +1,6 @@
 -- The nodes that a tree keeps are the digests of the parts of its map.
-use Rattle.std.proofs.Common.{◌≡◌, ◌≢◌, ℕ, suc, ◌/◌, ◌^◌, ◌<◌, List, [], Option, slice_index_or, refl, sym, ap, ◌∙◌, inl, inr, arith}
-use Rattle.std.specs.Int.Bits.{bit_xor}
-use Rattle.std.specs.Option.{unwrap_or}
-use Rattle.std.specs.Str.{bytes_eq}
-use Rattle.std.proofs.lemmas.Bool.{cases_Bool, cases_lt}
-use Rattle.std.proofs.lemmas.Nat.{xor_lt, pow_below}
+use Rattle.merkle_pages.proofs.Words.{◌≡◌, ◌≢◌, ℕ, suc, ◌/◌, ◌^◌, ◌<◌, List, [], slice_index_or, sym, ap, ◌∙◌, inl, inr, arith, bit_xor, unwrap_or, cases_Bool, cases_lt, xor_lt, pow_below, common_steps, node_string, subtree_digest, default_digest, root_of, IsMap, AreDefaults, Entry, default_digest-suc, part_at, KeepsDefaults, KeepsNodes, IsClear, KeepsNode, AddsPart, Paged, name_at, place_at, kept_digest, node_at, PutsAt}
 use Rattle.std.proofs.lemmas.Slice.Eq.{bytes_eq-Decides}
-use Rattle.sparse_merkle.specs.TreeDigest.{node_string, subtree_digest, default_digest, root_of, IsMap, AreDefaults}
-use Rattle.sparse_merkle.specs.declared.tree.Entry.{Entry}
-use Rattle.sparse_merkle.proofs.TreeLaws.{default_digest-suc}
-use Rattle.merkle_pages.specs.Nodes.{part_at, KeepsDefaults, KeepsNodes, IsClear, KeepsNode, AddsPart}
-use Rattle.merkle_pages.specs.Pages.{Paged, name_at, place_at, kept_digest, node_at, PutsAt}
 use Rattle.merkle_pages.proofs.PageLaws.{name_at-prefix, place_at-prefix, page_node-none, puts-elsewhere}
 use Rattle.merkle_pages.proofs.PartLaws.{part_at-same, part_at-whole, part_at-none, prefix-up, halves, sibling-apart, IsSibling-xor}
 
@@ -22,10 +12,7 @@ KeepsDefaults-made dig below root are is = record {
 }
 
 kept-read : (digest default : List ℕ) → unwrap_or (kept_digest digest default) default ≡ digest
-kept-read digest default = elim (cases_Bool (bytes_eq digest default)) [
-  | inl is ↦ rw is (sym ((bytes_eq-Decides digest default).0 is))
-  | inr isnt ↦ rw isnt refl
-]
+kept-read digest default = grind (arith, common_steps, cases_Bool, bytes_eq-Decides) steps 20000
 
 -- what stands for the siblings of a coin's way up are the digests of their parts
 pub siblings-kept : (dig : List ℕ → List ℕ) (entries : List Entry) (root : List ℕ) (pages : Paged)
@@ -54,19 +41,14 @@ module _ (dig : List ℕ → List ℕ) (entries : List Entry) where
       → PutsAt level coin (kept_digest digest default) old new
       → default ≡ default_digest dig level → KeepsNode dig level coin digest old new
   KeepsNode-put level coin digest default old new puts is = record {
-    here = λ lt. ap (λ (o : Option (List ℕ)). unwrap_or o (default_digest dig level)) puts.here
-        ∙ ap (λ (d : List ℕ). unwrap_or (kept_digest digest default) d) (sym is)
-        ∙ kept-read digest default;
+    here = grind (arith, common_steps, kept-read) steps 20000;
     elsewhere = λ k other in_tree apart.
         puts-elsewhere level coin k other (kept_digest digest default) old new puts apart;
   }
 
   pub KeepsNode-root : (level coin : ℕ) (digest : List ℕ) (pages : Paged)
       → level ≡ 64 → KeepsNode dig level coin digest pages pages
-  KeepsNode-root level coin digest pages top = record {
-    here = λ lt. absurd (omega arith);
-    elsewhere = λ k other in_tree apart. refl;
-  }
+  KeepsNode-root level coin digest pages top = grind (arith, common_steps) steps 20000
 
   -- ---- the nodes of a part
 
@@ -77,26 +59,13 @@ module _ (dig : List ℕ → List ℕ) (entries : List Entry) where
 
   pub AddsPart-none : (level coin : ℕ) (pages : Paged)
       → part_at level coin entries ≡ [] → IsClear level coin pages → AddsPart dig entries level coin pages pages
-  AddsPart-none level coin pages none clear = record {
-    added = λ k other in_tree le e.
-        ap (λ (o : Option (List ℕ)). unwrap_or o (default_digest dig k)) (clear k other in_tree le e)
-        ∙ ap (λ (part : List Entry). subtree_digest dig k part)
-        (sym (part_at-none k level other coin entries le e none));
-    stays = λ k other in_tree outside. refl;
-  }
+  AddsPart-none level coin pages none clear = grind (arith, common_steps, part_at-none) steps 20000
 
   pub AddsPart-leaf : (level coin : ℕ) (digest : List ℕ) (old new : Paged)
       → level ≡ 0 → digest ≡ subtree_digest dig level (part_at level coin entries)
       → KeepsNode dig level coin digest old new → AddsPart dig entries level coin old new
   AddsPart-leaf level coin digest old new bottom is keeps = record {
-    added = λ k other in_tree le e.
-        let same : k ≡ level = omega arith in
-        rw (
-          same,
-          name_at-prefix level other coin e,
-          place_at-prefix level other coin e,
-          part_at-same other coin level entries e,
-        ) (keeps.here (omega arith) ∙ is);
+    added = grind (arith, common_steps, name_at-prefix, place_at-prefix, part_at-same) steps 20000;
     stays = λ k other in_tree outside. keeps.elsewhere k other in_tree (λ same e. outside (omega arith) e);
   }
 
@@ -129,26 +98,16 @@ module _ (dig : List ℕ → List ℕ) (entries : List Entry) where
     AddsPart-more digest far new near more is keeps = record {
       added = λ k other tree le e. elim (cases_lt below k) [
         | inl over ↦
-            let same : k ≡ level = omega arith in
-            rw (
-              same,
-              name_at-prefix level other coin e,
-              place_at-prefix level other coin e,
-              part_at-same other coin level entries e,
-            ) (keeps.here (omega arith) ∙ is)
+            grind (arith, common_steps, name_at-prefix, place_at-prefix, part_at-same) steps 20000
         | inr under ↦
             let kept : node_at k other new ≡ node_at k other far =
             keeps.elsewhere k other tree (λ same _. absurd (omega arith)) in
             elim (halves other coin (bit_xor coin (2 ^ below)) below (IsSibling-xor coin below lt in_tree)
             (rw up at e)) [
               | inl here ↦
-                  let stood : node_at k other far ≡ node_at k other mid =
-                  more.stays k other tree (λ low f. apart-is (sym f ∙ here)) in
-                  ap (λ (o : Option (List ℕ)). unwrap_or o (default_digest dig k)) (kept ∙ stood)
-                  ∙ near.added k other tree under here
+                  grind (arith, common_steps, apart-is) steps 20000
               | inr there ↦
-                  ap (λ (o : Option (List ℕ)). unwrap_or o (default_digest dig k)) kept
-                  ∙ more.added k other tree under there
+                  grind (arith, common_steps) steps 20000
             ]
       ];
       stays = λ k other tree outside.

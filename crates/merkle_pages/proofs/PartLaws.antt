@@ -1,37 +1,15 @@
 -- Parts of a map: the two halves of a part, the whole map and one coin as parts, and the coins of a part.
-use Rattle.std.proofs.Common.{◌≡◌, ◌≢◌, ◌⊎◌, ℕ, zero, suc, ◌+◌, ◌-◌, ◌/◌, ◌^◌, ◌<◌, ◌≤◌, ◌==◌, ◌&&◌, Bool, true, false, not, List, [], ◌∷◌, length, get_or, slice_index_or, refl, sym, ap, ◌∙◌, inl, inr, arith, ◌%◌}
+use Rattle.merkle_pages.proofs.Words.{◌≡◌, ◌≢◌, ◌⊎◌, ℕ, zero, suc, ◌+◌, ◌-◌, ◌/◌, ◌^◌, ◌<◌, ◌≤◌, ◌==◌, ◌&&◌, Bool, true, false, not, List, [], ◌∷◌, length, get_or, slice_index_or, refl, sym, ap, ◌∙◌, inl, inr, arith, ◌%◌, bit_xor, filter, All, cases_Bool, cases_lt, eq-eqb, eqb-true, eqb-false, ne_eqb, both_ways, ext_get_or, get_or_push, get_or_append_left, get_or-map, length-map, nil_from_length, filter_passes, All-head, All-tail, shr-shr, xor_lt, pow_below, div-le_self, common_steps, parent_string, bit_of, leaf_string, leaf_of, only_leaf, near_part, far_part, subtree_digest, path_below, path_to, IsMap, IsSubtree, Entry, AllPairs-filter, agree-lower, bit_at-same, parent_string-sides, length-path_below, IsSubtree-parted, coins_of, near_coins, far_coins, part_at}
 use Rattle.std.specs.Int.{bit_at}
-use Rattle.std.specs.Int.Bits.{bit_xor}
-use Rattle.std.specs.List.{filter, All}
 use Rattle.std.specs.List.Sorted.{IsPartitionedBy}
-use Rattle.std.proofs.lemmas.Bool.{cases_Bool, cases_lt, eq-eqb, eqb-true, eqb-false, ne_eqb, both_ways}
-use Rattle.std.proofs.lemmas.List.{ext_get_or, get_or_push, get_or_append_left, get_or-map, length-map, nil_from_length}
-use Rattle.std.proofs.lemmas.List.Elements.{filter_passes, All-head, All-tail}
-use Rattle.std.proofs.lemmas.Nat.{shr-shr, xor_lt, pow_below}
 use Rattle.std.proofs.lemmas.Nat.Bits.{bit_at_xor, bit_at-pow_same, bit_at-pow_other, bit_at-lt, same_from_bits_below}
-use Rattle.std.proofs.Math.Nat.{div-le_self}
-use Rattle.sparse_merkle.specs.Opening.{parent_string}
-use Rattle.sparse_merkle.specs.TreeDigest.{bit_of, leaf_string, leaf_of, only_leaf, near_part, far_part, subtree_digest, path_below, path_to, IsMap, IsSubtree}
-use Rattle.sparse_merkle.specs.declared.tree.Entry.{Entry}
-use Rattle.sparse_merkle.proofs.Lists.{AllPairs-filter}
-use Rattle.sparse_merkle.proofs.TreeLaws.{agree-lower, bit_at-same, parent_string-sides, length-path_below, IsSubtree-parted}
-use Rattle.merkle_pages.specs.Leaves.{coins_of, near_coins, far_coins}
-use Rattle.merkle_pages.specs.Nodes.{part_at}
 
 -- ---- filters
 
 filter-twice : {X : Type 0} (p q r : X → Bool) → ((x : X) → r x ≡ (q x && p x)) → (xs : List X)
     → filter p (filter q xs) ≡ filter r xs
 filter-twice p q r both [] = refl
-filter-twice p q r both (x ∷ xs) =
-    let rest = filter-twice p q r both xs in
-    elim (cases_Bool (q x)) [
-      | inl is ↦ elim (cases_Bool (p x)) [
-        | inl passes ↦ rw (is, passes, both x, is, passes, rest) refl
-        | inr fails ↦ rw (is, fails, both x, is, fails, rest) refl
-      ]
-      | inr isnt ↦ rw (isnt, both x, isnt, rest) refl
-    ]
+filter-twice p q r both (x ∷ xs) = grind (arith, common_steps, filter-twice p q r both xs, cases_Bool) steps 20000
 
 pub filter-every : {X : Type 0} (p : X → Bool) (xs : List X) → All (λ x. p x ≡ true) xs → filter p xs ≡ xs
 filter-every p [] h = refl
@@ -39,8 +17,7 @@ filter-every p (x ∷ xs) h =
     rw (All-head (λ y. p y ≡ true) x xs h, filter-every p xs (All-tail (λ y. p y ≡ true) x xs h)) refl
 
 pub not_not : (b : Bool) → b ≡ not (not b)
-not_not true = refl
-not_not false = refl
+not_not b = grind (arith, common_steps) steps 20000
 
 -- ---- the halves of a part
 
@@ -64,12 +41,10 @@ other_prefix : (m n level : ℕ) → bit_of m level ≢ bit_of n level → (m / 
 other_prefix m n level differ = ne_eqb _ _ (λ e. differ (ap (λ (k : ℕ). k % 2 == 1) e))
 
 and_true : (b : Bool) → b ≡ (b && true)
-and_true true = refl
-and_true false = refl
+and_true b = grind (arith, common_steps) steps 20000
 
 and_false : (b : Bool) → false ≡ (b && false)
-and_false true = refl
-and_false false = refl
+and_false b = grind (arith, common_steps) steps 20000
 
 -- the coins of a part that have a 1 at the bit below, and those that have a 0
 right_half : (m n level : ℕ) → bit_of n level ≡ true
@@ -111,10 +86,7 @@ part_at-same one other level entries e = rw e refl
 
 far-near : (coin other level : ℕ) (entries : List Entry) → bit_of other level ≡ not (bit_of coin level)
     → far_part coin level entries ≡ near_part other level entries
-far-near coin other level entries e = elim (cases_Bool (bit_of coin level)) [
-  | inl is ↦ rw (is, e, is) refl
-  | inr isnt ↦ rw (isnt, e, isnt) refl
-]
+far-near coin other level entries e = grind (arith, common_steps, cases_Bool) steps 20000
 
 pub far-part : (coin other level : ℕ) (entries : List Entry) → IsSibling coin other level
     → far_part coin level (part_at (suc level) coin entries) ≡ part_at level other entries
@@ -140,12 +112,9 @@ unfolding part_at leaf_of
 only_leaf-part coin [] = refl
 only_leaf-part coin (entry ∷ entries) = elim (cases_Bool (entry.coin == coin)) [
   | inl is ↦
-      let e : entry.coin / 1 ≡ coin / 1 = ap (λ (k : ℕ). k / 1) (eqb-true entry.coin coin is) in
-      rw (eq-eqb (entry.coin / 1) (coin / 1) e, is) refl
+      grind (arith, common_steps, eqb-true, eq-eqb) steps 20000
   | inr isnt ↦
-      let ne : entry.coin ≢ coin = eqb-false entry.coin coin isnt in
-      let apart : entry.coin / 1 ≢ coin / 1 = λ e. ne (omega arith) in
-      rw (ne_eqb (entry.coin / 1) (coin / 1) apart, isnt) (only_leaf-part coin entries)
+      grind (arith, common_steps, only_leaf-part coin entries, eqb-false, ne_eqb) steps 20000
 ]
 
 pub digest-leaf : (dig : List ℕ → List ℕ) (coin : ℕ) (entries : List Entry)
@@ -162,9 +131,7 @@ digest-at_leaf dig level coin entries leaf digest bottom leaf_is is =
 pub part_at-whole : (coin : ℕ) (entries : List Entry) → coin < 2 ^ 64 → All (λ entry. entry.coin < 2 ^ 64) entries
     → part_at 64 coin entries ≡ entries
 unfolding part_at
-part_at-whole coin entries lt small =
-    filter-every (λ entry. entry.coin / 2 ^ 64 == coin / 2 ^ 64) entries (λ k d long. let below =
-    small k d long in eq-eqb _ _ (omega arith))
+part_at-whole coin entries lt small = grind (arith, common_steps, filter-every, eq-eqb) steps 20000
 
 -- a part of a part without a leaf has none
 pub part_at-none : (k level other coin : ℕ) (entries : List Entry) → k ≤ level
@@ -214,8 +181,7 @@ pub path_to-from : (dig : List ℕ → List ℕ) (coin : ℕ) (entries : List En
 unfolding path_to
 path_to-from dig coin entries other path lt small siblings long same =
     let below = path_below dig coin 64 (part_at 64 coin entries) in
-    let ext : path ≡ below = ext_get_or [] path below (long
-    ∙ sym (length-path_below dig coin 64 (part_at 64 coin entries)))
+    let ext : path ≡ below = ext_get_or [] path below (grind (arith, common_steps, length-path_below) steps 20000)
     (λ k within. same k (omega arith) ∙ sym (path_below-at dig coin entries other 64 k siblings (omega arith))) in
     rw (part_at-whole coin entries lt small) at ext
 
@@ -225,29 +191,19 @@ bit_at-high : (n k i : ℕ) → bit_at (n / 2 ^ k) i ≡ bit_at n (k + i)
 bit_at-high n k i = ap (λ (m : ℕ). m % 2) (shr-shr n k i)
 
 turned : (a b c : ℕ) → a < 2 → b ≡ 1 → c ≡ (a + b) % 2 → (c == 1) ≡ not (a == 1)
-turned zero b c lt one is = eq-eqb c 1 (omega arith)
-turned (suc zero) b c lt one is = ne_eqb c 1 (omega arith)
-turned (suc (suc a)) b c lt one is = absurd (omega arith)
+turned a b c lt one is = grind (arith, common_steps, eq-eqb, ne_eqb) steps 20000
 
 unturned : (a b c : ℕ) → a < 2 → b ≡ 0 → c ≡ (a + b) % 2 → c ≡ a
-unturned zero b c lt none is = omega arith
-unturned (suc zero) b c lt none is = omega arith
-unturned (suc (suc a)) b c lt none is = absurd (omega arith)
+unturned a b c lt none is = grind (arith, common_steps) steps 20000
 
 pub IsSibling-xor : (coin level : ℕ) → coin < 2 ^ 64 → level < 64 → IsSibling coin (bit_xor coin (2 ^ level)) level
 IsSibling-xor coin level lt in_tree =
     let small = xor_lt 64 coin (2 ^ level) lt (pow_below level 64 in_tree) in
     let other = bit_xor coin (2 ^ level) in
-    let same : (i : ℕ) → i < 64 → bit_at (other / 2 ^ suc level) i ≡ bit_at (coin / 2 ^ suc level) i = λ i _.
-    bit_at-high other (suc level) i
-    ∙ unturned (bit_at coin (suc level + i)) (bit_at (2 ^ level) (suc level + i)) (bit_at other (suc level + i))
-    (bit_at-lt coin (suc level + i))
-    (bit_at-pow_other level (suc level + i) (omega arith)) (bit_at_xor coin (2 ^ level) (suc level + i))
-    ∙ sym (bit_at-high coin (suc level) i) in
+    let same : (i : ℕ) → i < 64 → bit_at (other / 2 ^ suc level) i ≡ bit_at (coin / 2 ^ suc level) i =
+    grind (arith, common_steps, bit_at-high, unturned, bit_at-lt, bit_at-pow_other, bit_at_xor) steps 20000 in
     record {
-      bit = turned (bit_at coin level) (bit_at (2 ^ level) level) (bit_at other level) (bit_at-lt coin level)
-          (bit_at-pow_same level)
-          (bit_at_xor coin (2 ^ level) level);
+      bit = grind (arith, common_steps, turned, bit_at-lt, bit_at-pow_same, bit_at_xor) steps 20000;
       above = same_from_bits_below 64 (other / 2 ^ suc level) (coin / 2 ^ suc level)
           (omega (arith, div-le_self other (2 ^ suc level)))
           (omega (arith, div-le_self coin (2 ^ suc level))) same;
@@ -256,13 +212,7 @@ IsSibling-xor coin level lt in_tree =
 -- ---- the two halves of a part, by their coins
 
 pub sibling-apart : (coin other level : ℕ) → IsSibling coin other level → other / 2 ^ level ≢ coin / 2 ^ level
-sibling-apart coin other level h e =
-    let same : bit_of other level ≡ bit_of coin level = ap (λ (k : ℕ). k % 2 == 1) e in
-    turns (bit_of coin level) (sym same ∙ h.bit)
-  where
-    turns : (b : Bool) → b ≡ not b → ⊥
-    turns true bad = cc bad
-    turns false bad = cc bad
+sibling-apart coin other level h e = grind (arith, common_steps) steps 20000
 
 -- a coin that agrees with another above a level is on its side there or on the other
 pub halves : (one coin other level : ℕ) → IsSibling coin other level → one / 2 ^ suc level ≡ coin / 2 ^ suc level
@@ -287,56 +237,35 @@ pub digest-sides : (dig : List ℕ → List ℕ) (coin level below : ℕ) (entri
     → string ≡ parent_string turn near far → digest ≡ dig string
     → digest ≡ subtree_digest dig level (part_at level coin entries)
 digest-sides dig coin level below entries near far string digest turn up lt in_tree near_is far_is turn_is string_is
-    digest_is = rw (
-      up,
-      digest-above dig coin (bit_xor coin (2 ^ below)) below entries (IsSibling-xor coin below lt in_tree),
-      ← near_is,
-      ← far_is,
-      ← turn_is,
-      ← string_is,
-    ) digest_is
+    digest_is = grind (arith, common_steps, digest-above, IsSibling-xor) steps 20000
 
 -- ---- the coins of a part
 
 filter-coins : (p : ℕ → Bool) (entries : List Entry) → filter p (coins_of entries) ≡ coins_of (filter (λ entry. p
     entry.coin) entries)
 filter-coins p [] = refl
-filter-coins p (entry ∷ entries) = elim (cases_Bool (p entry.coin)) [
-  | inl is ↦ rw is (ap (λ (coins : List ℕ). entry.coin ∷ coins) (filter-coins p entries))
-  | inr isnt ↦ rw isnt (filter-coins p entries)
-]
+filter-coins p (entry ∷ entries) = grind (arith, common_steps, filter-coins p entries, cases_Bool) steps 20000
 
 pub near-coins : (coin level below : ℕ) (entries : List Entry) (coins near : List ℕ) → level ≡ suc below
     → coins ≡ coins_of (part_at level coin entries) → near ≡ near_coins coin below coins
     → near ≡ coins_of (part_at below coin entries)
-near-coins coin level below entries coins near up are is =
-    rw (is, are, up) (sides (part_at (suc below) coin entries)
-    ∙ ap coins_of (near-part coin below entries))
+near-coins coin level below entries coins near up are is = grind (arith, common_steps, sides, near-part) steps 20000
   where
     sides : (part : List Entry) → near_coins coin below (coins_of part) ≡ coins_of (near_part coin below part)
-    sides part = elim (cases_Bool (bit_of coin below)) [
-      | inl one ↦ rw one (filter-coins (λ c. bit_of c below) part)
-      | inr zero_is ↦ rw zero_is (filter-coins (λ c. not (bit_of c below)) part)
-    ]
+    sides part = grind (arith, common_steps, cases_Bool, filter-coins) steps 20000
 
 pub far-coins : (coin level below : ℕ) (entries : List Entry) (coins far : List ℕ) → level ≡ suc below
     → coin < 2 ^ 64 → below < 64 → coins ≡ coins_of (part_at level coin entries) → far ≡ far_coins coin below coins
     → far ≡ coins_of (part_at below (bit_xor coin (2 ^ below)) entries)
 far-coins coin level below entries coins far up lt in_tree are is =
-    rw (is, are, up) (sides (part_at (suc below) coin entries)
-    ∙ ap coins_of (far-part coin (bit_xor coin (2 ^ below)) below entries (IsSibling-xor coin below lt in_tree)))
+    grind (arith, common_steps, sides, far-part, IsSibling-xor) steps 20000
   where
     sides : (part : List Entry) → far_coins coin below (coins_of part) ≡ coins_of (far_part coin below part)
-    sides part = elim (cases_Bool (bit_of coin below)) [
-      | inl one ↦ rw one (filter-coins (λ c. not (bit_of c below)) part)
-      | inr zero_is ↦ rw zero_is (filter-coins (λ c. bit_of c below) part)
-    ]
+    sides part = grind (arith, common_steps, cases_Bool, filter-coins) steps 20000
 
 pub coins-none : (level coin : ℕ) (entries : List Entry) (coins : List ℕ)
     → coins ≡ coins_of (part_at level coin entries) → length coins ≡ 0 → part_at level coin entries ≡ []
-coins-none level coin entries coins are none =
-    nil_from_length (part_at level coin entries)
-    (sym (length-map (part_at level coin entries) (λ entry. entry.coin)) ∙ sym (ap length are) ∙ none)
+coins-none level coin entries coins are none = grind (arith, common_steps, nil_from_length, length-map) steps 20000
 
 part-subtree : (level coin : ℕ) (entries : List Entry) → IsMap entries → IsSubtree level (part_at level coin entries)
 unfolding part_at

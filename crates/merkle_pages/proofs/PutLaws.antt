@@ -1,14 +1,5 @@
 -- The parts of a map after a put: what it leaves as it was, and the digests on the way up from its coin.
-use Rattle.std.proofs.Common.{◌≡◌, ◌≢◌, ℕ, suc, ◌+◌, ◌/◌, ◌^◌, ◌<◌, ◌==◌, Bool, false, nat_lt, List, [], ◌∷◌, ◌++◌, length, get_or, refl, sym, ap, ◌∙◌, inl, inr, arith, append-nil}
-use Rattle.std.specs.Int.Bits.{bit_xor}
-use Rattle.std.specs.List.{filter, All, AllPairs}
-use Rattle.std.proofs.lemmas.Bool.{cases_Bool, cases_lt, ne_eqb, lt-ltb, le-ltb}
-use Rattle.std.proofs.lemmas.List.Elements.{filter-append, All-head, All-tail}
-use Rattle.sparse_merkle.specs.Opening.{parent_string}
-use Rattle.sparse_merkle.specs.TreeDigest.{bit_of, leaf_string, entry_of, with_leaf, subtree_digest, IsMap}
-use Rattle.sparse_merkle.specs.declared.tree.Entry.{Entry}
-use Rattle.sparse_merkle.proofs.TreeLaws.{leaf_of-with_leaf}
-use Rattle.merkle_pages.specs.Nodes.{part_at}
+use Rattle.merkle_pages.proofs.Words.{◌≡◌, ◌≢◌, ℕ, suc, ◌+◌, ◌/◌, ◌^◌, ◌<◌, Bool, false, nat_lt, List, [], ◌∷◌, ◌++◌, length, get_or, refl, inl, inr, arith, bit_xor, filter, All, AllPairs, cases_Bool, cases_lt, ne_eqb, lt-ltb, le-ltb, filter-append, All-head, All-tail, common_steps, parent_string, bit_of, leaf_string, entry_of, with_leaf, subtree_digest, IsMap, Entry, leaf_of-with_leaf, part_at}
 use Rattle.merkle_pages.proofs.PartLaws.{filter-every, digest-above, digest-leaf, IsSibling-xor, sibling-apart}
 
 filter-no : {X : Type 0} (p : X → Bool) (xs : List X) → All (λ x. p x ≡ false) xs → filter p xs ≡ []
@@ -32,43 +23,26 @@ split-filter p coin (entry ∷ entries) rising fails = elim (cases_lt entry.coin
   | inl below ↦
       let rest = split-filter p coin entries (λ i j d lt long. rising (suc i) (suc j) d (omega arith) (omega arith))
       fails in
-      rw (lt-ltb entry.coin coin below, le-ltb coin entry.coin (omega arith)) (elim (cases_Bool (p entry)) [
-        | inl is ↦ rw (is, rest) refl
-        | inr isnt ↦ rw (isnt, rest) refl
-      ])
+      grind (arith, common_steps, lt-ltb, le-ltb, cases_Bool) steps 20000
   | inr above ↦
       let higher : (k : ℕ) (d : Entry) → k < length entries → coin < (get_or entries k d).coin =
       λ k d long. let up = rising 0 (suc k) d (omega arith) (omega arith) in omega arith in
       let none = filter-no (λ e. nat_lt e.coin coin) entries
       (λ k d long. le-ltb _ coin (omega (arith, higher k d long))) in
       let every = filter-every (λ e. nat_lt coin e.coin) entries (λ k d long. lt-ltb coin _ (higher k d long)) in
-      rw (le-ltb entry.coin coin above, none, every) (elim (cases_lt coin entry.coin) [
-        | inl strict ↦ rw (lt-ltb coin entry.coin strict) refl
-        | inr le ↦ rw (le-ltb coin entry.coin le, fails entry (omega arith)) refl
-      ])
+      grind (arith, common_steps, le-ltb, cases_lt, lt-ltb) steps 20000
 ]
 
 entry_of-fails : (p : Entry → Bool) (coin : ℕ) (leaf : List ℕ) → ((entry : Entry) → entry.coin ≡ coin → p entry ≡ false)
     → filter p (entry_of coin leaf) ≡ []
-entry_of-fails p coin [] fails = refl
-entry_of-fails p coin (byte ∷ bytes) fails = rw (fails (record { coin = coin; leaf = byte ∷ bytes }) refl) refl
+entry_of-fails p coin leaf fails = grind (arith, common_steps) steps 20000
 
 pub part_at-other : (coin other level : ℕ) (leaf : List ℕ) (entries : List Entry) → IsMap entries
     → other / 2 ^ level ≢ coin / 2 ^ level
     → part_at level other (with_leaf entries coin leaf) ≡ part_at level other entries
 unfolding part_at
 part_at-other coin other level leaf entries map apart =
-    let p : Entry → Bool = λ entry. entry.coin / 2 ^ level == other / 2 ^ level in
-    let fails : (entry : Entry) → entry.coin ≡ coin → p entry ≡ false =
-    λ entry e. ne_eqb _ _ (λ same. apart (sym same ∙ ap (λ (k : ℕ). k / 2 ^ level) e)) in
-    let lower = filter (λ entry. nat_lt entry.coin coin) entries in
-    let higher = filter (λ entry. nat_lt coin entry.coin) entries in
-    rw (
-      filter-append p (lower ++ entry_of coin leaf) higher,
-      filter-append p lower (entry_of coin leaf),
-      entry_of-fails p coin leaf fails,
-      append-nil (filter p lower),
-    ) (split-filter p coin entries map.rising fails)
+    grind (arith, common_steps, ne_eqb, filter-append, entry_of-fails, split-filter) steps 20000
 
 -- ---- the digests on the way up from a coin that has a new leaf
 

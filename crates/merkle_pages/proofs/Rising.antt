@@ -1,9 +1,6 @@
 -- Entries in rising order of coins, split at a coin.
 use Rattle.std.proofs.Common.{◌≡◌, ◌≢◌, ℕ, suc, ◌<◌, ◌≤◌, nat_lt, List, [], ◌∷◌, refl, arith, filter}
-use Rattle.std.specs.List.{All, AllPairs, AllByRecursion}
-use Rattle.std.proofs.lemmas.Bool.{lt-ltb, le-ltb}
-use Rattle.std.proofs.lemmas.List.Elements.{recursion_from_All}
-use Rattle.sparse_merkle.specs.declared.tree.Entry.{Entry}
+use Rattle.merkle_pages.proofs.Words.{All, AllPairs, AllByRecursion, lt-ltb, le-ltb, recursion_from_All, Entry}
 
 abbrev pub low : ℕ → List Entry → List Entry
 low coin entries = filter (λ entry. nat_lt entry.coin coin) entries

@@ -1,26 +1,13 @@
 -- The nodes on the way up from a coin: room made for them, digests put in their place, and the tree after a put.
-use Rattle.std.proofs.Common.{◌≡◌, ◌≢◌, ℕ, ◌+◌, ◌/◌, ◌^◌, ◌<◌, ◌≤◌, ◌==◌, List, [], slice_index_or, Option, Some, None, IsSome, refl, sym, ap, ◌∙◌, inl, inr, arith}
-use Rattle.std.specs.Option.{unwrap_or}
-use Rattle.std.proofs.lemmas.Bool.{cases_Bool, cases_lt, cases_eq, eqb-true, eqb-false}
-use Rattle.sparse_merkle.specs.TreeDigest.{with_leaf, subtree_digest, default_digest, root_of, AreDefaults}
-use Rattle.sparse_merkle.specs.declared.tree.Entry.{Entry}
-use Rattle.sparse_merkle.proofs.TreeLaws.{IsMap-with_leaf}
-use Rattle.merkle_pages.specs.Nodes.{part_at, KeepsNodes}
-use Rattle.merkle_pages.specs.Pages.{Paged, name_at, place_at, node_at, read_at, SameNodes, ReadsSame, PutsAt, SetsWay}
+use Rattle.merkle_pages.proofs.Words.{◌≡◌, ◌≢◌, ℕ, ◌+◌, ◌/◌, ◌^◌, ◌<◌, ◌≤◌, ◌==◌, List, [], slice_index_or, Option, Some, IsSome, sym, ap, ◌∙◌, inl, inr, arith, unwrap_or, cases_Bool, cases_lt, cases_eq, eqb-true, eqb-false, common_steps, with_leaf, subtree_digest, default_digest, root_of, AreDefaults, Entry, IsMap-with_leaf, part_at, KeepsNodes, Paged, node_at, read_at, SameNodes, ReadsSame, PutsAt, SetsWay}
 use Rattle.merkle_pages.proofs.PageLaws.{node-prefix, page_node-none, puts-here, puts-elsewhere}
 use Rattle.merkle_pages.proofs.PartLaws.{part_at-same, part_at-whole}
 use Rattle.merkle_pages.proofs.PutLaws.{part_at-empty, part_at-other}
 
 -- ---- nodes that stay
 
-pub reads-then : (defaults : List (List ℕ)) (old mid new : Paged) → ReadsSame defaults old mid
-    → ReadsSame defaults mid new → ReadsSame defaults old new
-reads-then defaults old mid new first second level coin lt = second level coin lt ∙ first level coin lt
-
 pub reads-nodes : (defaults : List (List ℕ)) (old new : Paged) → SameNodes old new → ReadsSame defaults old new
-reads-nodes defaults old new same level coin lt =
-    ap (λ (o : Option (List ℕ)). unwrap_or o (slice_index_or defaults level []))
-    (same (name_at level coin) (place_at level coin))
+reads-nodes defaults old new same level coin lt = grind (arith, common_steps) steps 20000
 
 -- what is kept in place of a node is read as it was
 pub reads-put : (defaults : List (List ℕ)) (level coin : ℕ) (kept : Option (List ℕ)) (old new : Paged)
@@ -54,26 +41,13 @@ reads-put defaults level coin kept old new puts is k other lt =
 
 pub room-put : (level coin : ℕ) (digest : List ℕ) (old new : Paged) → PutsAt level coin (Some digest) old new
     → (k : ℕ) → IsSome (node_at k coin old) → IsSome (node_at k coin new)
-room-put level coin digest old new puts k some = elim (cases_eq k level) [
-  | inl same ↦ rw (same, puts.here) refl
-  | inr apart ↦ rw (puts-elsewhere level coin k coin (Some digest) old new puts (λ same e. apart same)) some
-]
-
-pub room-same : (coin : ℕ) (old new : Paged) → SameNodes old new → (k : ℕ) → IsSome (node_at k coin old)
-    → IsSome (node_at k coin new)
-room-same coin old new same k some = rw (same (name_at k coin) (place_at k coin)) some
-
-pub no-room : (kept : Option (List ℕ)) → IsSome kept → kept ≡ None → ⊥
-no-room kept some none = let bad = rw none at some in cc bad
+room-put level coin digest old new puts k some = grind (arith, common_steps, cases_eq, puts-elsewhere) steps 20000
 
 -- ---- the digests of a way in place of its nodes
 
 pub SetsWay-none : (coin : ℕ) (digests defaults : List (List ℕ)) (pages : Paged)
     → SetsWay coin 0 digests defaults pages pages
-SetsWay-none coin digests defaults pages = record {
-  here = λ k other below lt e. absurd (omega arith);
-  elsewhere = λ k other lt off_way. refl;
-}
+SetsWay-none coin digests defaults pages = grind (arith, common_steps) steps 20000
 
 pub SetsWay-more : (coin level : ℕ) (digests defaults : List (List ℕ)) (digest : List ℕ) (old mid new : Paged)
     → SetsWay coin level digests defaults old mid → PutsAt level coin (Some digest) mid new
@@ -111,16 +85,7 @@ SetsWay-then coin digests defaults old roomy mid new first sets last = record {
 pub KeepsNodes-none : (dig : List ℕ → List ℕ) (root : List ℕ) (pages : Paged) → root ≡ default_digest dig 64
     → pages.entries ≡ [] → KeepsNodes dig [] root pages
 unfolding root_of
-KeepsNodes-none dig root pages is bare = record {
-  map = record {
-    rising = λ i j d lt long. absurd (omega arith);
-    small = λ k d lt. absurd (omega arith);
-    not_empty = λ k d lt. absurd (omega arith);
-  };
-  root_is = is;
-  nodes = λ level coin in_tree lt.
-      rw (page_node-none pages (name_at level coin) (place_at level coin) bare, part_at-empty level coin) refl;
-}
+KeepsNodes-none dig root pages is bare = grind (arith, common_steps, page_node-none, part_at-empty) steps 20000
 
 module _ (dig : List ℕ → List ℕ) (entries : List Entry) (defaults : List (List ℕ)) (root : List ℕ) (old new : Paged)
     (are : AreDefaults dig defaults) (h : KeepsNodes dig entries root old) where
@@ -128,15 +93,6 @@ module _ (dig : List ℕ → List ℕ) (entries : List Entry) (defaults : List (
   read : (level other : ℕ) (pages : Paged) → level < 64
       → unwrap_or (node_at level other pages) (default_digest dig level) ≡ read_at defaults level other pages
   read level other pages lt = ap (λ (d : List ℕ). unwrap_or (node_at level other pages) d) (sym (are level lt))
-
-  pub KeepsNodes-stay : ReadsSame defaults old new → KeepsNodes dig entries root new
-  KeepsNodes-stay same = record {
-    map = h.map;
-    root_is = h.root_is;
-    nodes = λ level other in_tree lt.
-        read level other new in_tree ∙ same level other in_tree ∙ sym (read level other old in_tree)
-        ∙ h.nodes level other in_tree lt;
-  }
 
   pub KeepsNodes-put : (coin : ℕ) (leaf : List ℕ) (digests : List (List ℕ)) → coin < 2 ^ 64
       → ((level : ℕ) → level ≤ 64 → slice_index_or digests level [] ≡ subtree_digest dig level
@@ -158,10 +114,6 @@ module _ (dig : List ℕ → List ℕ) (entries : List Entry) (defaults : List (
               (sym (part_at-same other coin level (with_leaf entries coin leaf) e))
           | inr isnt ↦
               let ne : other / 2 ^ level ≢ coin / 2 ^ level = eqb-false _ _ isnt in
-              read level other new in_tree ∙ sets.elsewhere level other in_tree (λ below. ne)
-              ∙ sym (read level other old in_tree)
-              ∙ h.nodes level other in_tree small
-              ∙ ap (λ (part : List Entry). subtree_digest dig level part)
-              (sym (part_at-other coin other level leaf entries h.map ne))
+              grind (arith, common_steps, read, part_at-other) steps 20000
         ];
       }

@@ -1,5 +1,4 @@
-use Rattle.std.proofs.Common.{rules, ◌≡◌, ◌-◌, [], arith}
-use Rattle.merkle_pages.specs.Nodes.{part_at}
+use Rattle.merkle_pages.proofs.Words.{rules, ◌≡◌, ◌-◌, [], arith, part_at}
 use Rattle.merkle_pages.proofs.NodeLaws.{AddsPart-none, AddsPart-leaf, AddsPart-more, clear-near, clear-far}
 use Rattle.merkle_pages.proofs.PartLaws.{coins-none, coins-parted, near-coins, far-coins, digest-at_leaf, digest-sides}
 use Rattle.merkle_pages.proofs.nodes.+add_part.Goals as goal

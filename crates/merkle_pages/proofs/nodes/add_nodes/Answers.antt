@@ -1,8 +1,4 @@
-use Rattle.std.proofs.Common.{◌≡◌, ℕ, List, Result, Ok, Err, IfOk, OnOk, arith}
-use Rattle.sparse_merkle.specs.TreeDigest.{subtree_digest, IsMap}
-use Rattle.sparse_merkle.specs.declared.tree.Entry.{Entry}
-use Rattle.merkle_pages.specs.Nodes.{part_at, KeepsNodes, AddsPart}
-use Rattle.merkle_pages.specs.Pages.{Paged}
+use Rattle.merkle_pages.proofs.Words.{◌≡◌, ℕ, List, Result, Ok, Err, IfOk, OnOk, arith, subtree_digest, IsMap, Entry, part_at, KeepsNodes, AddsPart, Paged}
 use Rattle.merkle_pages.proofs.NodeLaws.{IsClear-bare, KeepsNodes-made}
 use Rattle.merkle_pages.proofs.PartLaws.{part_at-whole}
 use Rattle.merkle_pages.proofs.nodes.add_nodes.Goals as goal

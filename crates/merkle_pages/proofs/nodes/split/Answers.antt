@@ -1,7 +1,5 @@
-use Rattle.std.proofs.Common.{rules, not, sym, ◌∙◌}
+use Rattle.merkle_pages.proofs.Words.{rules, not, sym, ◌∙◌, bit_of, filter-front, filter-back}
 use Rattle.std.proofs.lemmas.List.Sorted.{IsPartitionPoint-from_clause}
-use Rattle.sparse_merkle.specs.TreeDigest.{bit_of}
-use Rattle.sparse_merkle.proofs.Lists.{filter-front, filter-back}
 use Rattle.merkle_pages.proofs.PartLaws.{not_not}
 use Rattle.merkle_pages.proofs.nodes.split.Goals as goal
 

@@ -1,5 +1,4 @@
-use Rattle.std.proofs.Common.{sym}
-use Rattle.merkle_pages.specs.Pages.{name_at, place_at}
+use Rattle.merkle_pages.proofs.Words.{sym, name_at, place_at}
 use Rattle.merkle_pages.proofs.PageLaws.{puts_none}
 use Rattle.merkle_pages.proofs.pages.keep_node.Goals as goal
 

@@ -1,7 +1,4 @@
-use Rattle.std.proofs.Common.{◌≡◌, ◌<◌, ◌*◌, ◌/◌, ◌^◌, refl, ◌∙◌, inl, inr, arith, rules}
-use Rattle.std.specs.Int.Bits.{bit_xor}
-use Rattle.std.proofs.lemmas.Bool.{cases_lt}
-use Rattle.merkle_pages.specs.Pages.{name_in, name_at}
+use Rattle.merkle_pages.proofs.Words.{◌≡◌, ◌<◌, ◌*◌, ◌/◌, ◌^◌, refl, ◌∙◌, inl, inr, arith, rules, bit_xor, cases_lt, name_in, name_at}
 use Rattle.merkle_pages.proofs.PageLaws.{name_at-above}
 use Rattle.merkle_pages.proofs.PartLaws.{IsSibling-xor}
 use Rattle.merkle_pages.proofs.pages.siblings.Goals as goal

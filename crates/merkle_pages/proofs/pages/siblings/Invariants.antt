@@ -1,7 +1,4 @@
-use Rattle.std.proofs.Common.{◌≡◌, ◌*◌, ◌<◌, ◌≤◌, ◌^◌, ℕ, [], length, slice_index_or}
-use Rattle.std.specs.Int.Bits.{bit_xor}
-use Rattle.std.specs.Option.{unwrap_or}
-use Rattle.merkle_pages.specs.Pages.{node_at}
+use Rattle.merkle_pages.proofs.Words.{◌≡◌, ◌*◌, ◌<◌, ◌≤◌, ◌^◌, ℕ, [], length, slice_index_or, bit_xor, unwrap_or, node_at}
 use Rattle.merkle_pages.proofs.pages.siblings.Given as goal
 
 abbrev pub invariant-loop-number : goal.invariant-loop-number

@@ -1,5 +1,4 @@
-use Rattle.std.proofs.Common.{◌*◌}
-use Rattle.merkle_pages.specs.Pages.{TakesSiblings}
+use Rattle.merkle_pages.proofs.Words.{◌*◌, TakesSiblings}
 use Rattle.merkle_pages.proofs.pages.take_siblings.Given as goal
 
 abbrev pub invariant-loop-level : goal.invariant-loop-level

@@ -1,5 +1,4 @@
-use Rattle.std.proofs.Common.{◌≡◌, List, ℕ, [], Some, None, Result, Ok, Err, OnOk, OnErr, slice_index_or, refl, rules}
-use Rattle.merkle_pages.specs.Pages.{Paged, node_at, ReadsSame, SameNodes, PutsAt}
+use Rattle.merkle_pages.proofs.Words.{◌≡◌, List, ℕ, [], Some, None, Result, Ok, Err, OnOk, OnErr, slice_index_or, refl, rules, Paged, node_at, ReadsSame, SameNodes, PutsAt}
 use Rattle.merkle_pages.proofs.WayLaws.{reads-nodes, reads-put}
 use Rattle.merkle_pages.proofs.way.make_room.Goals as goal
 

@@ -1,5 +1,4 @@
-use Rattle.std.proofs.Common.{◌<◌, ℕ, IsSome}
-use Rattle.merkle_pages.specs.Pages.{node_at, ReadsSame}
+use Rattle.merkle_pages.proofs.Words.{◌<◌, ℕ, IsSome, node_at, ReadsSame}
 use Rattle.merkle_pages.proofs.way.make_rooms.Given as goal
 
 abbrev pub invariant-loop-level : goal.invariant-loop-level

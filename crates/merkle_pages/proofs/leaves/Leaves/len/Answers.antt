@@ -1,6 +1,4 @@
-use Rattle.std.proofs.Common.{◌∙◌, sym}
-use Rattle.std.proofs.lemmas.List.{length-map}
-use Rattle.merkle_pages.specs.Leaves.{entry_in}
+use Rattle.merkle_pages.proofs.Words.{◌∙◌, sym, length-map, entry_in}
 use Rattle.merkle_pages.proofs.leaves.Leaves.len.Goals as goal
 
 pub returns : goal.returns

@@ -1,8 +1,4 @@
-use Rattle.std.proofs.Common.{◌≡◌, ◌^◌, ◌<◌, ℕ, List, Result, Ok, Err, OnOk, OnErr, arith}
-use Rattle.sparse_merkle.specs.TreeDigest.{with_leaf, IsMap}
-use Rattle.sparse_merkle.proofs.TreeLaws.{IsMap-with_leaf}
-use Rattle.sparse_merkle.specs.declared.tree.Entry.{Entry}
-use Rattle.merkle_pages.specs.Leaves.{entries_in}
+use Rattle.merkle_pages.proofs.Words.{◌≡◌, ◌^◌, ◌<◌, ℕ, List, Result, Ok, Err, OnOk, OnErr, arith, with_leaf, IsMap, IsMap-with_leaf, Entry, entries_in}
 use Rattle.merkle_pages.proofs.leaves.Leaves.put.Goals as goal
 
 IsMap-put : {A E : Type 0} (result : Result A E) (old new : List Entry) (coin : ℕ) (leaf : List ℕ) → IsMap old

@@ -1,8 +1,4 @@
-use Rattle.std.proofs.Common.{◌≡◌, ◌≢◌, ◌+◌, ◌<◌, ◌^◌, [], length, slice_index_or, refl, ◌∙◌, inl, inr, arith, length-set, get_or-set_other, get_or-set_same}
-use Rattle.std.specs.Int.Bits.{bit_xor}
-use Rattle.std.proofs.lemmas.Bool.{cases_lt}
-use Rattle.sparse_merkle.specs.TreeDigest.{IsMap, subtree_digest}
-use Rattle.merkle_pages.specs.Nodes.{part_at}
+use Rattle.merkle_pages.proofs.Words.{◌≡◌, ◌≢◌, ◌+◌, ◌<◌, ◌^◌, [], length, slice_index_or, refl, ◌∙◌, inl, inr, arith, length-set, get_or-set_other, get_or-set_same, bit_xor, cases_lt, IsMap, subtree_digest, part_at}
 use Rattle.merkle_pages.proofs.PutLaws.{way-start, way-up}
 use Rattle.merkle_pages.proofs.tree.SharedTree.digests_with.Goals as goal
 

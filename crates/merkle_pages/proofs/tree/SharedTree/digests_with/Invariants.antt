@@ -1,6 +1,4 @@
-use Rattle.std.proofs.Common.{◌≡◌, ◌≤◌, ℕ, [], length, slice_index_or}
-use Rattle.sparse_merkle.specs.TreeDigest.{with_leaf, subtree_digest}
-use Rattle.merkle_pages.specs.Nodes.{part_at}
+use Rattle.merkle_pages.proofs.Words.{◌≡◌, ◌≤◌, ℕ, [], length, slice_index_or, with_leaf, subtree_digest, part_at}
 use Rattle.merkle_pages.proofs.tree.SharedTree.digests_with.Given as goal
 
 abbrev pub invariant-loop-level : goal.invariant-loop-level

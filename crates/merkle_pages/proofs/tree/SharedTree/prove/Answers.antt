@@ -1,6 +1,4 @@
-use Rattle.std.proofs.Common.{◌^◌, arith}
-use Rattle.std.specs.Int.Bits.{bit_xor}
-use Rattle.sparse_merkle.specs.TreeDigest.{IsMap, AreDefaults, path_to}
+use Rattle.merkle_pages.proofs.Words.{◌^◌, arith, bit_xor, IsMap, AreDefaults, path_to}
 use Rattle.sparse_merkle.proofs.PathProof.{proof_of_path-made}
 use Rattle.sparse_merkle.proofs.ProofLaws.{proof_path-made, opens-made, is_canonical-made}
 use Rattle.merkle_pages.proofs.NodeLaws.{siblings-kept}

@@ -1,5 +1,4 @@
-use Rattle.std.proofs.Common.{arith}
-use Rattle.sparse_merkle.specs.TreeDigest.{AreDefaults}
+use Rattle.merkle_pages.proofs.Words.{arith, AreDefaults}
 use Rattle.merkle_pages.proofs.WayLaws.{KeepsNodes-put}
 use Rattle.merkle_pages.proofs.tree.SharedTree.put.Goals as goal
 
