@@ -1,15 +1,5 @@
 -- What an append does to a journal, from the room that was made for it on.
-use Rattle.std.proofs.Common.{◌≡◌, ◌<◌, ◌≤◌, ◌+◌, ◌-◌, ℕ, max, Bool, true, false, cond, ◌&&◌, List, [], ◌∷◌, ◌++◌, length, Option, Some, refl, sym, ◌∙◌, ap, subst, arith}
-use Rattle.std.proofs.lemmas.Bool.{leb-true, ltb-true}
-use Rattle.std.proofs.lemmas.Grind.{common_steps}
-use Rattle.crash_disk.specs.Disk.{History, content, FaultPlan, LeavesOnly}
-use Rattle.crash_disk.specs.Calls.{WhereTold, IsStill, Course, passed, failed_after, after_course, Made}
-use Rattle.crash_disk.proofs.Calls.{made_from, made_same}
-use Rattle.gate_journal.specs.Image.{most}
-use Rattle.gate_journal.specs.Steps.{frame_of, steps_at, append_steps}
-use Rattle.gate_journal.specs.Journal.{JournalState, Keeps, KeepsWithOrWithout, IsSettled, has_spare, Appended, AppendFailed}
-use Rattle.gate_journal.specs.Inside.{with_room_for}
-use Rattle.gate_journal.specs.Sound.{RestsAt}
+use Rattle.gate_journal.proofs.Words.{◌≡◌, ◌<◌, ◌≤◌, ◌+◌, ◌-◌, ℕ, max, Bool, true, false, cond, ◌&&◌, List, [], ◌∷◌, ◌++◌, length, Option, Some, refl, sym, ◌∙◌, ap, subst, arith, leb-true, ltb-true, common_steps, History, content, FaultPlan, LeavesOnly, WhereTold, IsStill, Course, passed, failed_after, after_course, Made, made_from, made_same, most, frame_of, steps_at, append_steps, JournalState, Keeps, KeepsWithOrWithout, IsSettled, has_spare, Appended, AppendFailed, with_room_for, RestsAt}
 use Rattle.gate_journal.proofs.Rest.{gate_settled, gate_leaves}
 
 -- a journal with room for a body of so many bytes

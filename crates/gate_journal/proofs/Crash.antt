@@ -1,25 +1,12 @@
 -- What a crash leaves at each moment of an append.
-use Rattle.std.proofs.Common.{◌≡◌, ◌<◌, ◌≤◌, ◌+◌, ◌-◌, ◌%◌, ℕ, zero, suc, min, Bool, true, false, cond, leb, ltb, ◌||◌, ◌&&◌, List, [], ◌∷◌, ◌++◌, length, take, drop, get_or, slice_index, refl, sym, ◌∙◌, ap, subst, inl, inr, arith, append_assoc, length-append}
-use Rattle.std.specs.Int.{w32, to_be_bytes}
-use Rattle.std.specs.List.{count_by, range_with_len}
-use Rattle.std.proofs.lemmas.Bool.{cases_Bool, le-leb}
-use Rattle.std.proofs.lemmas.Bool.Decides.{nat_tests}
-use Rattle.std.proofs.lemmas.List.{take_at, drop_at, append-nil}
+use Rattle.gate_journal.proofs.Words.{◌≡◌, ◌<◌, ◌≤◌, ◌+◌, ◌-◌, ◌%◌, ℕ, zero, suc, min, Bool, true, false, cond, leb, ltb, ◌||◌, ◌&&◌, List, [], ◌∷◌, ◌++◌, length, take, drop, get_or, slice_index, refl, sym, ◌∙◌, ap, subst, inl, inr, arith, append_assoc, length-append, w32, to_be_bytes, count_by, range_with_len, cases_Bool, le-leb, nat_tests, take_at, drop_at, append-nil, common_steps, writes, syncs, DeviceCall, History, content, synced_content, unsynced_ranges, content_after, synced_content_after, unsynced_ranges_after, with_write, is_touched, MayLeave, made_of, frame_of, append_steps, is_open, most, spelled_record, spelled, Spells, Keeps, KeepsWithOrWithout, IsSettled, opens_gate, is_added, StoppedAppends, synced_is_content, synced_content_is_left}
 use Rattle.std.proofs.lemmas.List.FromFn.{get_or-map-range_with_len}
-use Rattle.std.proofs.lemmas.Grind.{common_steps}
-use Rattle.crash_disk.specs.Disk.{writes, syncs, DeviceCall, History, content, synced_content, unsynced_ranges, content_after, synced_content_after, unsynced_ranges_after, with_write, is_touched, MayLeave}
 use Rattle.crash_disk.specs.Outcomes.{image_after, mix_of, mix_byte, HasPattern}
 use Rattle.crash_disk.specs.declared.outcome.Outcome.{Outcome}
 use Rattle.crash_disk.specs.declared.outcome.Outcome.TheVariants.{Old, New, Mix}
 use Rattle.crash_disk.proofs.Images.{outcomes, none_below}
-use Rattle.crash_disk.specs.Calls.{made_of}
-use Rattle.gate_journal.specs.Steps.{frame_of, append_steps}
-use Rattle.gate_journal.specs.Image.{is_open, most, spelled_record, spelled, Spells}
-use Rattle.gate_journal.specs.Journal.{Keeps, KeepsWithOrWithout, IsSettled}
-use Rattle.gate_journal.specs.Laws.{opens_gate, is_added, StoppedAppends}
 use Rattle.gate_journal.proofs.Read.{holds-length, spelled_is_read}
 use Rattle.gate_journal.proofs.Front.{IsRead, front-keeps, read_more, spelled_read}
-use Rattle.crash_disk.proofs.Left.{synced_is_content, synced_content_is_left}
 use Rattle.gate_journal.proofs.Left.{Left, left, only, behind, at_gate}
 
 before_gate : (g len k : ℕ) → k < g → k < len → (leb len k || ((leb g k && ltb k (g + 1)) || false)) ≡ false

@@ -1,14 +1,5 @@
 -- An image that was read, as the bytes that its records take, a closed gate and a rest.
-use Rattle.std.proofs.Common.{◌≡◌, ◌⊎◌, ◌<◌, ◌≤◌, ◌+◌, ◌^◌, ℕ, zero, suc, Bool, true, false, leb, eqb, ◌&&◌, List, [], ◌∷◌, ◌++◌, length, take, drop, Option, Some, None, Result, Ok, Err, refl, sym, ◌∙◌, ap, subst, inl, inr, arith, append_assoc, length-append, length-take, length-drop, take-append-drop}
-use Rattle.std.specs.Int.{w32, to_be_bytes, from_be_bytes}
-use Rattle.std.specs.List.{All}
-use Rattle.std.specs.Result.{result_ok}
-use Rattle.std.proofs.lemmas.Bool.{leb-true, eqb-true}
-use Rattle.std.proofs.lemmas.List.{drop_at, append-nil, drop-drop}
-use Rattle.std.proofs.lemmas.List.Elements.{All-nil, All-push, All-head, All-tail, All-cons}
-use Rattle.std.proofs.lemmas.Grind.{common_steps}
-use Rattle.gate_journal.specs.Image.{is_open, most, mark, spelled_record, spelled_records, spelled, body_in, with_first, records_from, journal_in, kept_records, ReadIsSpelled}
-use Rattle.gate_journal.specs.Journal.{Keeps}
+use Rattle.gate_journal.proofs.Words.{◌≡◌, ◌⊎◌, ◌<◌, ◌≤◌, ◌+◌, ◌^◌, ℕ, zero, suc, Bool, true, false, leb, eqb, ◌&&◌, List, [], ◌∷◌, ◌++◌, length, take, drop, Option, Some, None, Result, Ok, Err, refl, sym, ◌∙◌, ap, subst, inl, inr, arith, append_assoc, length-append, length-take, length-drop, take-append-drop, w32, to_be_bytes, from_be_bytes, All, result_ok, leb-true, eqb-true, drop_at, append-nil, drop-drop, All-nil, All-push, All-head, All-tail, All-cons, common_steps, is_open, most, mark, spelled_record, spelled_records, spelled, body_in, with_first, records_from, journal_in, kept_records, ReadIsSpelled, Keeps}
 use Rattle.gate_journal.proofs.Read.{Fits, body_in-field, holds-length, with_front, records_from-record, records_from-end, records_from-empty, records_from-zero, records_from-none, is_165, journal_in-mark, ReadsOn, on_record, on_end}
 use Rattle.gate_journal.proofs.Spelling.{spelled-push, length-spelled-push}
 

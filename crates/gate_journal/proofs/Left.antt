@@ -1,11 +1,5 @@
 -- What a crash leaves by what is synced, what was written since, and how long the disk is.
-use Rattle.std.proofs.Common.{◌≡◌, ◌≢◌, ◌<◌, ◌≤◌, ◌+◌, ℕ, zero, suc, false, leb, ltb, ◌&&◌, ◌||◌, List, [], ◌∷◌, ◌++◌, length, take, drop, get_or, refl, sym, ◌∙◌, ap, inl, inr, arith, append_assoc, length-append, length-take, take-append-drop}
-use Rattle.std.proofs.lemmas.Bool.{cases_lt, cases_eq}
-use Rattle.std.proofs.lemmas.Bool.Decides.{nat_tests}
-use Rattle.std.proofs.lemmas.Grind.{same_number_lists, common_steps}
-use Rattle.std.proofs.lemmas.List.{get_or-take, take_at}
-use Rattle.crash_disk.proofs.Left.{untouched_same}
-use Rattle.crash_disk.specs.Disk.{History, content, synced_content, unsynced_ranges, is_touched, MayLeave}
+use Rattle.gate_journal.proofs.Words.{◌≡◌, ◌≢◌, ◌<◌, ◌≤◌, ◌+◌, ℕ, zero, suc, false, leb, ltb, ◌&&◌, ◌||◌, List, [], ◌∷◌, ◌++◌, length, take, drop, get_or, refl, sym, ◌∙◌, ap, inl, inr, arith, append_assoc, length-append, length-take, take-append-drop, cases_lt, cases_eq, nat_tests, same_number_lists, common_steps, get_or-take, take_at, untouched_same, History, content, synced_content, unsynced_ranges, is_touched, MayLeave}
 
 -- the fields of `MayLeave` over plain lists
 pub record Left (bytes : List ℕ) (ranges : List (ℕ × ℕ)) (most : ℕ) (image : List ℕ) : Type 0 where

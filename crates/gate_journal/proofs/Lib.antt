@@ -1,3 +1,4 @@
+pub mod Words
 pub mod Read
 mod Spelling
 pub mod Front

@@ -1,19 +1,7 @@
 -- What a journal keeps through its life.
-use Rattle.std.proofs.Common.{◌≡◌, ◌≤◌, ◌||◌, ℕ, Bool, true, false, cond, List, [], ◌∷◌, ◌++◌, length, Option, Some, None, refl, sym, ◌∙◌, ap, subst, inl, inr, append_assoc, arith}
-use Rattle.std.specs.Option.{option_and_then}
-use Rattle.std.specs.Result.{result_ok}
-use Rattle.std.proofs.lemmas.List.{append-nil}
+use Rattle.gate_journal.proofs.Words.{◌≡◌, ◌≤◌, ◌||◌, ℕ, Bool, true, false, cond, List, [], ◌∷◌, ◌++◌, length, Option, Some, None, refl, sym, ◌∙◌, ap, subst, inl, inr, append_assoc, arith, option_and_then, result_ok, append-nil, common_steps, History, content, MayLeave, Course, passed, failed_after, stopped_after, content_may_be_left, fresh_disk_leaves_itself, most, spelled, kept_records, append_steps, open_steps, Keeps, is_made, make_steps, RecordsStay, AppendedRecordsStay, MadeJournalsStay}
 use Rattle.std.proofs.lemmas.Option.{option_and_then_some}
-use Rattle.std.proofs.lemmas.Grind.{common_steps}
-use Rattle.crash_disk.specs.Disk.{History, content, MayLeave}
-use Rattle.crash_disk.specs.Calls.{Course, passed, failed_after, stopped_after}
-use Rattle.crash_disk.proofs.Left.{content_may_be_left, fresh_disk_leaves_itself}
-use Rattle.gate_journal.specs.Image.{most, spelled, kept_records}
-use Rattle.gate_journal.specs.Steps.{append_steps, open_steps}
-use Rattle.gate_journal.specs.Journal.{Keeps}
-use Rattle.gate_journal.specs.Make.{is_made, make_steps}
 use Rattle.gate_journal.specs.Life.{Event, makes, opens, appends, crashes, Life, shut, records_in, where_passed, records_after, after_event, MayCome, after_events, MayAllCome, Continue, Stay}
-use Rattle.gate_journal.specs.Laws.{RecordsStay, AppendedRecordsStay, MadeJournalsStay}
 use Rattle.gate_journal.proofs.Rest.{AtRest, rest_images, leaves_now, append_rests, course_leaves}
 use Rattle.gate_journal.proofs.Stopped.{stopped_openings, made_leaves}
 

@@ -1,20 +1,6 @@
 -- The making of a journal.
-use Rattle.std.proofs.Common.{◌≡◌, ◌≢◌, ◌<◌, ◌≤◌, ◌+◌, ℕ, Bool, true, false, cond, not, ltb, eqb, List, [], ◌∷◌, ◌++◌, length, take, drop, Option, Some, None, Ok, Err, is_some, refl, sym, ◌∙◌, ap, subst, arith}
-use Rattle.std.proofs.lemmas.Bool.{cases_Bool, cases_lt, lt-ltb}
-use Rattle.std.proofs.lemmas.Bool.Decides.{nat_tests}
-use Rattle.std.proofs.lemmas.List.{drop_all, take_all}
-use Rattle.std.specs.Option.{option_map}
-use Rattle.std.specs.Result.{result_ok}
-use Rattle.std.proofs.lemmas.Grind.{common_steps}
-use Rattle.crash_disk.specs.Disk.{Step, History, content, writes, reads, asks_length, syncs, with_write, with_call, FaultPlan}
-use Rattle.crash_disk.specs.Calls.{WhereTold, Called, passed, failed_after, with_made, Made}
-use Rattle.crash_disk.proofs.Calls.{later, made_over, made_there, made_none, made_fault, made_more, made_after, made_within}
-use Rattle.crash_disk.proofs.Left.{synced_content_is_left}
-use Rattle.gate_journal.specs.Image.{begins_open, after_mark, records_from, kept_records, Spells}
-use Rattle.gate_journal.specs.Journal.{Keeps}
-use Rattle.gate_journal.specs.Make.{empty, is_made, look_steps, make_steps, IsFresh, IsBlank, Makes}
+use Rattle.gate_journal.proofs.Words.{◌≡◌, ◌≢◌, ◌<◌, ◌≤◌, ◌+◌, ℕ, Bool, true, false, cond, not, ltb, eqb, List, [], ◌∷◌, ◌++◌, length, take, drop, Option, Some, None, Ok, Err, is_some, refl, sym, ◌∙◌, ap, subst, arith, cases_Bool, cases_lt, lt-ltb, nat_tests, drop_all, take_all, option_map, result_ok, common_steps, Step, History, content, writes, reads, asks_length, syncs, with_write, with_call, FaultPlan, WhereTold, Called, passed, failed_after, with_made, Made, later, made_over, made_there, made_none, made_fault, made_more, made_after, made_within, synced_content_is_left, begins_open, after_mark, records_from, kept_records, Spells, Keeps, empty, is_made, look_steps, make_steps, IsFresh, IsBlank, Makes, OverContent, LooksAt}
 use Rattle.gate_journal.specs.declared.refusal.JournalRefusal.TheVariants.{NoMemory}
-use Rattle.gate_journal.specs.Inside.{OverContent, LooksAt}
 use Rattle.gate_journal.proofs.Read.{records_from-end, records_from-none, records_from-empty, is_165}
 use Rattle.gate_journal.proofs.Crash.{settled_now}
 use Rattle.gate_journal.proofs.OpenCalls.{some_image, any_image}

@@ -1,15 +1,5 @@
 -- The device calls of an opening.
-use Rattle.std.proofs.Common.{◌≡◌, ℕ, true, false, List, [], ◌∷◌, ◌++◌, length, replicate, take, drop, Option, Some, None, refl, sym, ◌∙◌, ap, subst, arith}
-use Rattle.std.proofs.lemmas.List.{take_all, take_at, length-replicate}
-use Rattle.std.specs.Option.{option_map}
-use Rattle.std.proofs.lemmas.Grind.{common_steps}
-use Rattle.crash_disk.specs.Disk.{asks_length, reads, syncs, History, content, with_call, FaultPlan}
-use Rattle.crash_disk.specs.Calls.{WhereTold, Called, IsStill, passed, failed_after, stopped_after, Made}
-use Rattle.crash_disk.proofs.Calls.{made_from, made_over, made_none, made_stop, made_fault, made_more}
-use Rattle.gate_journal.specs.Image.{Spells, journal_in}
-use Rattle.gate_journal.specs.Steps.{open_steps}
-use Rattle.gate_journal.specs.Journal.{IsSettled, RefusesOpen}
-use Rattle.gate_journal.specs.Inside.{OverContent, IsReadRefusal}
+use Rattle.gate_journal.proofs.Words.{◌≡◌, ℕ, true, false, List, [], ◌∷◌, ◌++◌, length, replicate, take, drop, Option, Some, None, refl, sym, ◌∙◌, ap, subst, arith, take_all, take_at, length-replicate, option_map, common_steps, asks_length, reads, syncs, History, content, with_call, FaultPlan, WhereTold, Called, IsStill, passed, failed_after, stopped_after, Made, made_from, made_over, made_none, made_stop, made_fault, made_more, Spells, journal_in, open_steps, IsSettled, RefusesOpen, OverContent, IsReadRefusal}
 use Rattle.gate_journal.specs.declared.refusal.JournalRefusal.{JournalRefusal}
 use Rattle.gate_journal.proofs.Crash.{settled_now}
 

@@ -1,15 +1,7 @@
 -- What an image spells is read, and how the reader goes on.
-use Rattle.std.proofs.Common.{◌≡◌, ◌<◌, ◌≤◌, ◌+◌, ℕ, zero, suc, true, false, leb, List, [], ◌∷◌, ◌++◌, length, take, drop, Some, None, Result, Ok, Err, refl, sym, ◌∙◌, ap, arith, append_assoc, length-append, length-drop}
-use Rattle.std.specs.Int.{w32, to_be_bytes, from_be_bytes}
-use Rattle.std.specs.List.{All}
-use Rattle.std.proofs.lemmas.Bool.{le-leb}
-use Rattle.std.proofs.lemmas.Bool.Decides.{nat_tests}
-use Rattle.std.proofs.lemmas.List.{take_at, drop_at, append-nil}
-use Rattle.std.proofs.lemmas.List.Elements.{All-head, All-tail}
+use Rattle.gate_journal.proofs.Words.{◌≡◌, ◌<◌, ◌≤◌, ◌+◌, ℕ, zero, suc, true, false, leb, List, [], ◌∷◌, ◌++◌, length, take, drop, Some, None, Result, Ok, Err, refl, sym, ◌∙◌, ap, arith, append_assoc, length-append, length-drop, w32, to_be_bytes, from_be_bytes, All, le-leb, nat_tests, take_at, drop_at, append-nil, All-head, All-tail, common_steps, is_open, begins_open, most, mark, spelled_record, spelled_records, body_in, with_first, records_from, journal_in, SpelledIsRead}
 use Rattle.std.proofs.lemmas.Nat.{from_be_bytes-to_be_bytes_4}
-use Rattle.std.proofs.lemmas.Grind.{common_steps}
 use Rattle.plasma_base.specs.Fields.{field_at}
-use Rattle.gate_journal.specs.Image.{is_open, begins_open, most, mark, spelled_record, spelled_records, body_in, with_first, records_from, journal_in, SpelledIsRead}
 
 abbrev pub Fits : List (List ℕ) → Type 0
 Fits records = All (λ body. length body ≤ most) records

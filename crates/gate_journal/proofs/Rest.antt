@@ -1,16 +1,5 @@
 -- An append from a journal at rest.
-use Rattle.std.proofs.Common.{◌≡◌, ◌<◌, ◌≤◌, ◌+◌, ◌-◌, ◌*◌, ℕ, zero, suc, false, List, [], ◌∷◌, ◌++◌, length, take, refl, sym, ◌∙◌, ap, subst, inl, arith}
-use Rattle.std.proofs.lemmas.List.{take_all}
-use Rattle.std.proofs.lemmas.List.Elements.{All-push}
-use Rattle.std.proofs.lemmas.Grind.{common_steps}
-use Rattle.crash_disk.specs.Disk.{Step, DeviceCall, History, content, unsynced_ranges, MayLeave, moment, LeavesOnly}
-use Rattle.crash_disk.specs.Calls.{Course, passed, failed_after, stopped_after, made_of, with_made, after_course}
-use Rattle.crash_disk.proofs.Left.{synced_content_is_left}
-use Rattle.gate_journal.specs.Image.{most, spelled, Spells}
-use Rattle.gate_journal.specs.Steps.{append_steps}
-use Rattle.gate_journal.specs.Journal.{Keeps, KeepsWithOrWithout, IsSettled}
-use Rattle.gate_journal.specs.Laws.{AppendsSettle}
-use Rattle.gate_journal.specs.Sound.{RestsAt}
+use Rattle.gate_journal.proofs.Words.{◌≡◌, ◌<◌, ◌≤◌, ◌+◌, ◌-◌, ◌*◌, ℕ, zero, suc, false, List, [], ◌∷◌, ◌++◌, length, take, refl, sym, ◌∙◌, ap, subst, inl, arith, take_all, All-push, common_steps, Step, DeviceCall, History, content, unsynced_ranges, MayLeave, moment, LeavesOnly, Course, passed, failed_after, stopped_after, made_of, with_made, after_course, synced_content_is_left, most, spelled, Spells, append_steps, Keeps, KeepsWithOrWithout, IsSettled, AppendsSettle, RestsAt}
 use Rattle.gate_journal.proofs.Spelling.{spelled-push, length-spelled-push}
 use Rattle.gate_journal.proofs.Front.{Fronts, fronts, front-keeps, spelled_read}
 use Rattle.gate_journal.proofs.Crash.{front_more, more_read, now_content, any_moment, settled_now, tail}

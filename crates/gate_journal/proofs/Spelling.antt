@@ -1,9 +1,5 @@
 -- The spelling of one more record.
-use Rattle.std.proofs.Common.{◌≡◌, ◌+◌, ℕ, List, [], ◌∷◌, ◌++◌, length, arith}
-use Rattle.std.proofs.lemmas.List.{append-nil}
-use Rattle.std.proofs.lemmas.Grind.{common_steps}
-use Rattle.gate_journal.specs.Image.{spelled_record, spelled_records, spelled}
-use Rattle.gate_journal.specs.Steps.{frame_of}
+use Rattle.gate_journal.proofs.Words.{◌≡◌, ◌+◌, ℕ, List, [], ◌∷◌, ◌++◌, length, arith, append-nil, common_steps, spelled_record, spelled_records, spelled, frame_of}
 
 spelled_records-push : (records : List (List ℕ)) (body : List ℕ)
     → spelled_records (records ++ body ∷ []) ≡ spelled_records records ++ spelled_record body

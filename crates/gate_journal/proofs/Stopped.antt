@@ -1,13 +1,5 @@
 -- What a crash leaves at each moment of calls that write nothing, and of a making.
-use Rattle.std.proofs.Common.{◌≡◌, ◌≤◌, ◌+◌, ℕ, zero, suc, Bool, true, false, cond, eqb, List, [], ◌∷◌, ◌++◌, length, take, drop, MatchBool, slice_index, refl, sym, ◌∙◌, ap, subst, arith}
-use Rattle.std.proofs.lemmas.List.{append-nil}
-use Rattle.std.proofs.lemmas.Grind.{common_steps}
-use Rattle.crash_disk.specs.Disk.{Step, asks_length, reads, writes, syncs, DeviceCall, History, content, content_after, synced_content_after, unsynced_ranges_after, is_touched, MayLeave, before_last, LeavesOnly}
-use Rattle.crash_disk.specs.Calls.{Course, passed, failed_after, stopped_after, made_of, after_course}
-use Rattle.crash_disk.proofs.Left.{content_may_be_left, synced_content_is_left}
-use Rattle.gate_journal.specs.Steps.{open_steps}
-use Rattle.gate_journal.specs.Make.{empty, is_made, look_steps, make_steps, IsBlank}
-use Rattle.gate_journal.specs.Laws.{StoppedOpenings, StoppedMakings}
+use Rattle.gate_journal.proofs.Words.{◌≡◌, ◌≤◌, ◌+◌, ℕ, zero, suc, Bool, true, false, cond, eqb, List, [], ◌∷◌, ◌++◌, length, take, drop, MatchBool, slice_index, refl, sym, ◌∙◌, ap, subst, arith, append-nil, common_steps, Step, asks_length, reads, writes, syncs, DeviceCall, History, content, content_after, synced_content_after, unsynced_ranges_after, is_touched, MayLeave, before_last, LeavesOnly, Course, passed, failed_after, stopped_after, made_of, after_course, content_may_be_left, synced_content_is_left, open_steps, empty, is_made, look_steps, make_steps, IsBlank, StoppedOpenings, StoppedMakings}
 use Rattle.gate_journal.proofs.Making.{empty_written, not_made, short_blank, make_steps-made, make_steps-new}
 
 -- the calls at each moment since a number of them have Q

@@ -1,10 +1,4 @@
-use Rattle.std.proofs.Common.{rules, ◌≡◌, ◌<◌, ◌+◌, ◌^◌, ℕ, [], ◌∷◌, ◌++◌, length, drop, List, Some, None, sym, ◌∙◌, ap, subst, arith, length-append, length-drop}
-use Rattle.std.specs.Int.{w32, to_be_bytes}
-use Rattle.std.specs.List.{All}
-use Rattle.std.specs.Result.{result_ok}
-use Rattle.std.proofs.lemmas.List.Elements.{All-from_get_or}
-use Rattle.std.proofs.lemmas.Bool.Decides.{nat_tests}
-use Rattle.gate_journal.specs.Image.{body_in, spelled, spelled_record, journal_in}
+use Rattle.gate_journal.proofs.Words.{rules, ◌≡◌, ◌<◌, ◌+◌, ◌^◌, ℕ, [], ◌∷◌, ◌++◌, length, drop, List, Some, None, sym, ◌∙◌, ap, subst, arith, length-append, length-drop, w32, to_be_bytes, All, result_ok, All-from_get_or, nat_tests, body_in, spelled, spelled_record, journal_in}
 use Rattle.gate_journal.proofs.Read.{ReadsOn, on_record, on_nothing, on_empty, on_end}
 use Rattle.gate_journal.proofs.Spelling.{spelled-push}
 use Rattle.gate_journal.proofs.Front.{read_is_spelled}

@@ -1,5 +1,4 @@
-use Rattle.std.proofs.Common.{◌≡◌, ◌+◌, length}
-use Rattle.gate_journal.specs.Image.{journal_in, spelled}
+use Rattle.gate_journal.proofs.Words.{◌≡◌, ◌+◌, length, journal_in, spelled}
 use Rattle.gate_journal.proofs.Read.{ReadsOn}
 use Rattle.gate_journal.proofs.image.read_records.Given as goal
 

@@ -1,5 +1,4 @@
-use Rattle.std.proofs.Common.{◌≡◌, length, arith}
-use Rattle.std.proofs.lemmas.Result.{err_from_is_err_and}
+use Rattle.gate_journal.proofs.Words.{◌≡◌, length, arith, err_from_is_err_and}
 use Rattle.gate_journal.proofs.Making.{look_fault, look_other, look_unread, look_read}
 use Rattle.gate_journal.proofs.make.look.Goals as goal
 

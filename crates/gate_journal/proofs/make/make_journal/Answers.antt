@@ -1,8 +1,4 @@
-use Rattle.std.proofs.Common.{◌≡◌, List, ℕ, Option, sym, ◌∙◌}
-use Rattle.std.proofs.lemmas.Result.{err_from_is_err_and}
-use Rattle.crash_disk.specs.Disk.{History, FaultPlan, content}
-use Rattle.crash_disk.specs.Calls.{WhereTold, IsStill}
-use Rattle.crash_disk.proofs.Calls.{made_from}
+use Rattle.gate_journal.proofs.Words.{◌≡◌, List, ℕ, Option, sym, ◌∙◌, err_from_is_err_and, History, FaultPlan, content, WhereTold, IsStill, made_from}
 use Rattle.gate_journal.proofs.Making.{make_unlooked, make_found, make_unwritten, make_unsynced, make_done, now_fresh, any_makes}
 use Rattle.gate_journal.proofs.make.make_journal.Goals as goal
 

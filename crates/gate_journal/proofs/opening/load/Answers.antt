@@ -1,6 +1,4 @@
-use Rattle.std.proofs.Common.{List, ℕ, subst}
-use Rattle.gate_journal.specs.Image.{Spells}
-use Rattle.gate_journal.specs.Inside.{IsReadRefusal}
+use Rattle.gate_journal.proofs.Words.{List, ℕ, subst, Spells, IsReadRefusal}
 use Rattle.gate_journal.proofs.OpenCalls.{opened_settled, refused_read}
 use Rattle.gate_journal.proofs.opening.load.Goals as goal
 

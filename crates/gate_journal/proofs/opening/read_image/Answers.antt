@@ -1,6 +1,4 @@
-use Rattle.std.proofs.Common.{◌≡◌, length, ◌∙◌, arith}
-use Rattle.std.proofs.lemmas.Result.{err_from_is_err_and}
-use Rattle.crash_disk.specs.Disk.{content}
+use Rattle.gate_journal.proofs.Words.{◌≡◌, length, ◌∙◌, arith, err_from_is_err_and, content}
 use Rattle.gate_journal.proofs.OpenCalls.{open_none, open_unsynced, open_unasked, open_begun, open_unread, open_read, read_is_content, whole_room}
 use Rattle.gate_journal.proofs.opening.read_image.Goals as goal
 

@@ -1,8 +1,4 @@
-use Rattle.std.proofs.Common.{ℕ, List, [], ◌∷◌}
-use Rattle.std.proofs.lemmas.Result.{err_from_is_err_and}
-use Rattle.crash_disk.specs.Disk.{Step, writes, syncs}
-use Rattle.crash_disk.specs.Calls.{passed, failed_after}
-use Rattle.crash_disk.proofs.Calls.{made_none, made_fault, made_more}
+use Rattle.gate_journal.proofs.Words.{ℕ, List, [], ◌∷◌, err_from_is_err_and, Step, writes, syncs, passed, failed_after, made_none, made_fault, made_more}
 use Rattle.gate_journal.proofs.steps.write_record.Goals as goal
 
 -- the steps from the first sync on, from the gate on, and the last one

@@ -1,10 +1,4 @@
-use Rattle.std.proofs.Common.{◌≡◌, ◌+◌, ℕ, false, length, List, Some, sym, ◌∙◌, ap, subst, arith}
-use Rattle.std.specs.Option.{option_map}
-use Rattle.crash_disk.specs.Disk.{History, LeavesOnly}
-use Rattle.crash_disk.specs.Calls.{passed, failed_after, with_made}
-use Rattle.gate_journal.specs.Steps.{append_steps, steps_at}
-use Rattle.gate_journal.specs.Journal.{JournalState, KeepsWithOrWithout}
-use Rattle.gate_journal.specs.Sound.{RestsAt}
+use Rattle.gate_journal.proofs.Words.{◌≡◌, ◌+◌, ℕ, false, length, List, Some, sym, ◌∙◌, ap, subst, arith, option_map, History, LeavesOnly, passed, failed_after, with_made, append_steps, steps_at, JournalState, KeepsWithOrWithout, RestsAt}
 use Rattle.gate_journal.proofs.Spelling.{length-frame_of}
 use Rattle.gate_journal.proofs.OpenCalls.{told_of}
 use Rattle.gate_journal.proofs.Rest.{gate_within, rests_again, still_leaves, one_room, less_room}

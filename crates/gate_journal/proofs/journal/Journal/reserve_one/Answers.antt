@@ -1,5 +1,4 @@
-use Rattle.std.proofs.Common.{◌+◌, Bool, cond, sym, ◌∙◌, ap}
-use Rattle.gate_journal.specs.Journal.{with_spare}
+use Rattle.gate_journal.proofs.Words.{◌+◌, Bool, cond, sym, ◌∙◌, ap, with_spare}
 use Rattle.gate_journal.proofs.journal.Journal.reserve_one.Goals as goal
 
 pub returns-then-has_spare-clause-room : goal.returns-then-has_spare-clause-room
