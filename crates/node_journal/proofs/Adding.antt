@@ -1,15 +1,5 @@
 -- What an append to the journal of notes is for the notes.
-use Rattle.std.proofs.Common.{◌≡◌, ◌≤◌, ◌+◌, ℕ, true, false, List, [], ◌∷◌, ◌++◌, length, Option, Some, Err, sym, ◌∙◌, ap, arith}
-use Rattle.plasma_base.specs.Causes.{faults_after}
-use Rattle.crash_disk.specs.Disk.{History, content, FaultPlan}
-use Rattle.crash_disk.specs.Calls.{WhereTold}
-use Rattle.gate_journal.specs.Image.{most, spelled}
-use Rattle.gate_journal.specs.Journal.{JournalState, Keeps, IsSettled, Appended, Appends, is_device_fault}
-use Rattle.gate_journal.specs.declared.refusal.JournalRefusal.{JournalRefusal}
-use Rattle.gate_journal.specs.declared.refusal.JournalRefusal.TheVariants.{AlreadyMade, NotJournal, RecordTooLong, DeviceFault, Closed, NoMemory}
-use Rattle.node_journal.specs.Role.{Kinds, are_of, may_follow}
-use Rattle.node_journal.specs.Notes.{Added, Did}
-use Rattle.node_journal.specs.Inside.{IsSound, stop_of}
+use Rattle.node_journal.proofs.Words.{◌≡◌, ◌≤◌, ℕ, true, false, List, [], ◌∷◌, ◌++◌, length, Option, Some, Err, ◌∙◌, ap, arith, common_steps, faults_after, History, content, FaultPlan, WhereTold, most, JournalState, Keeps, IsSettled, Appended, Appends, is_device_fault, JournalRefusal, AlreadyMade, NotJournal, RecordTooLong, DeviceFault, Closed, NoMemory, Kinds, are_of, may_follow, Added, Did, IsSound, stop_of}
 use Rattle.node_journal.proofs.Keeping.{notes_over, AnyMoment, settled_now, went, met}
 use Rattle.node_journal.proofs.Roles.{notes_follow}
 use Rattle.node_journal.proofs.Spelling.{length-spelled-push}
@@ -30,9 +20,7 @@ module _ {D : Type 0} (kinds : Kinds) (told : D → Option History) (plan : D �
     pub sound_more : may_follow kinds records body ≡ true → IsSound kinds (told new.disk) new.closed new.gate more
     sound_more may = record {
       role = ap (are_of kinds) same ∙ notes_follow kinds records body sound.role may;
-      place =
-          ap (λ (j : JournalState D). j.gate) appended.journal ∙ ap (λ (n : ℕ). n + (5 + length body)) sound.place
-          ∙ sym (ap (λ (l : List (List ℕ)). length (spelled l)) same ∙ length-spelled-push records body);
+      place = grind (arith, common_steps, length-spelled-push) steps 20000;
       settled = λ still.
           settled_now told plan faults body old new records (λ open'. sound.place) sound.settled any appended kept same;
     }

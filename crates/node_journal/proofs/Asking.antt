@@ -1,16 +1,7 @@
 -- A question for a disk's length, and what a refused init leaves.
-use Rattle.std.proofs.Common.{◌≡◌, ◌<◌, ◌≤◌, ℕ, Bool, true, false, ltb, List, [], ◌∷◌, length, Option, Some, None, inl, inr, refl, sym, ◌∙◌, ap, arith, length-append}
-use Rattle.std.specs.Option.{option_map}
-use Rattle.std.proofs.lemmas.Bool.Decides.{nat_tests}
-use Rattle.crash_disk.specs.Disk.{Step, asks_length, with_call, History, content, FaultPlan}
-use Rattle.crash_disk.specs.Calls.{WhereTold, passed, after_course, Made}
-use Rattle.gate_journal.specs.Image.{spelled_record, spelled_records, kept_records}
-use Rattle.gate_journal.specs.Steps.{open_steps}
-use Rattle.gate_journal.specs.Make.{is_made, make_steps}
+use Rattle.node_journal.proofs.Words.{◌≡◌, ◌<◌, ◌≤◌, ℕ, true, false, ltb, List, [], ◌∷◌, length, Option, Some, None, inl, inr, refl, ◌∙◌, ap, arith, option_map, nat_tests, common_steps, Step, History, content, FaultPlan, WhereTold, passed, after_course, Made, kept_records, is_made, has_content, is_taken, journal_steps, init_steps, RefusesEmpty, PassesInit, StopsInit, IsAsked, HoldsAsBefore, RefusedPairsStay}
 use Rattle.gate_journal.specs.declared.refusal.InitRefusal.TheVariants.{AlreadyMade}
 use Rattle.gate_journal.proofs.Front.{fronts}
-use Rattle.node_journal.specs.Begin.{has_content, is_taken, image_made, journal_steps, init_steps, RefusesEmpty, PassesInit, StopsInit, IsAsked, HoldsAsBefore}
-use Rattle.node_journal.specs.Laws.{RefusedPairsStay}
 use Rattle.node_journal.proofs.Courses.{after_both}
 use Rattle.node_journal.proofs.Untaken.{not_less, unmade_untaken, making_holds}
 
@@ -18,11 +9,7 @@ long_made : (image : List ℕ) → 5 < length image → is_made image ≡ true
 long_made image long = (let more : ltb 5 (length image) ≡ true = grind (arith, nat_tests) in rw more refl)
 
 taken_made : (image : List ℕ) → is_taken image ≡ true → is_made image ≡ true
-taken_made image taken = at (is_made image) refl
-  where
-    at : (b : Bool) → is_made image ≡ b → is_made image ≡ true
-    at true is = is
-    at false is = absurd (cc (unmade_untaken image is, taken))
+taken_made image taken = grind (arith, common_steps, unmade_untaken) steps 20000
 
 short_untaken : (image : List ℕ) → length image ≤ 5 → is_taken image ≡ false
 short_untaken image short = at (kept_records image) refl
@@ -32,21 +19,12 @@ short_untaken image short = at (kept_records image) refl
     at (Some []) is = ap (has_content (length image)) is
     at (Some (body ∷ bodies)) is =
         let f = fronts image (body ∷ bodies) is in
-        absurd (omega (
-          arith,
-          short,
-          ap length f.is,
-          length-append f.front (f.gate ∷ f.rest),
-          f.read.place,
-          length-append (spelled_record body) (spelled_records bodies),
-        ))
+        grind (arith, common_steps) steps 20000
 
 -- what a disk holds once a journal that stands on it was opened
 stands : (history : History) → is_made (content history) ≡ true
     → content (after_course passed (journal_steps (content history)) history) ≡ content history
-stands history made =
-    ap content (after_both (make_steps (content history)) (open_steps (image_made (content history))) history)
-    ∙ making_holds history ∙ rw made refl
+stands history made = grind (arith, common_steps, after_both, making_holds) steps 20000
 
 -- ---- what stays
 
@@ -57,27 +35,17 @@ module _ {D : Type 0} (told : D → Option History) where
       → (now : History) × (told new ≡ Some now) × (content now ≡ content before)
 
   stays-on : {old mid new : D} → Stays old mid → Stays mid new → Stays old new
-  stays-on first second before is =
-      let mid = first before is in
-      let now = second mid.0 mid.1 in
-      (now.0, now.1, now.2 ∙ mid.2)
+  stays-on first second before is = grind (arith, common_steps) steps 20000
 
   same-stays : {old new : D} → new ≡ old → Stays old new
   same-stays same before is = (before, ap told same ∙ is, refl)
 
   stays-holds : {old new : D} → Stays old new → HoldsAsBefore (told old) (told new)
-  stays-holds stays before is now some =
-      let there = stays before is in
-      let same : there.0 ≡ now = cc (there.1, some) in
-      ap content (sym same) ∙ there.2
+  stays-holds stays before is now some = grind (arith, common_steps) steps 20000
 
   module _ (plan : D → Option FaultPlan) (faults : D → ℕ) where
     asked-stays : {old new : D} → IsAsked told plan faults old new → Stays old new
-    asked-stays asked before is = (
-      with_call asks_length false before,
-      asked.called.history ∙ ap (option_map (with_call asks_length false)) is,
-      refl,
-    )
+    asked-stays asked before is = grind (arith, common_steps) steps 20000
 
     -- a journal that stands was opened, or not
     opened-stays : {old new : D} → ((before : History) → told old ≡ Some before → is_made (content before) ≡ true)

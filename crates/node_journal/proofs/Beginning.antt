@@ -1,20 +1,8 @@
 -- The device calls of an init: a making, an opening, and an append.
-use Rattle.std.proofs.Common.{◌≡◌, ◌≤◌, ◌+◌, ℕ, Bool, cond, List, [], ◌∷◌, ◌++◌, length, take, Option, Some, None, Result, Ok, Err, inr, refl, sym, ◌∙◌, ap, subst, arith, length-append}
-use Rattle.std.proofs.lemmas.List.{append-nil, take-append-le}
-use Rattle.std.specs.Option.{option_map}
-use Rattle.std.specs.Result.{IfOk, IfErr, OnOk}
-use Rattle.plasma_base.specs.Causes.{faults_after}
-use Rattle.crash_disk.specs.Disk.{Step, History, content, FaultPlan}
-use Rattle.crash_disk.specs.Calls.{WhereTold, Course, passed, failed_after, stopped_after, after_course, with_made, Made}
+use Rattle.node_journal.proofs.Words.{◌≡◌, ◌+◌, ℕ, Bool, cond, List, [], ◌∷◌, ◌++◌, length, Option, Some, None, Result, Ok, Err, inr, refl, sym, ◌∙◌, ap, subst, arith, append-nil, take-append-le, option_map, IfOk, IfErr, OnOk, common_steps, faults_after, Step, History, content, FaultPlan, WhereTold, Course, passed, failed_after, stopped_after, after_course, Made, kept_records, append_steps, open_steps, JournalState, Keeps, IsSettled, Appended, make_steps, is_taken, image_made, journal_steps, init_steps, InitsOver, StopsBehindOver, is_fault_refusal, is_init_fault, Inits, BeginsEmpty, RefusesEmpty, PassesInit, PassesPair, RefusesBehindNotes, RefusesBehindLeaves, FindsOver, AppendsIdentity, OpensEmpty, RefusesEmptyOver}
 use Rattle.crash_disk.proofs.Calls.{later, made_over, made_there, made_after, made_within, made_stop}
-use Rattle.gate_journal.specs.Image.{kept_records}
-use Rattle.gate_journal.specs.Steps.{append_steps, open_steps}
-use Rattle.gate_journal.specs.Journal.{JournalState, Keeps, IsSettled, Appended}
-use Rattle.gate_journal.specs.Make.{make_steps}
 use Rattle.gate_journal.specs.declared.refusal.InitRefusal.{InitRefusal}
 use Rattle.gate_journal.specs.declared.refusal.InitRefusal.TheVariants.{AlreadyMade as InitMade, DeviceFault as InitFault, NoMemory as InitNoMemory}
-use Rattle.node_journal.specs.Begin.{is_taken, image_made, journal_steps, init_steps, InitsOver, StopsBehindOver, is_fault_refusal, is_init_fault, Inits, BeginsEmpty, RefusesEmpty, PassesInit, PassesPair, RefusesBehindNotes, RefusesBehindLeaves}
-use Rattle.node_journal.specs.Inside.{FindsOver, AppendsIdentity, OpensEmpty, RefusesEmptyOver}
 use Rattle.node_journal.specs.declared.init.NotBegun.{NotBegun}
 use Rattle.node_journal.proofs.Untaken.{kept_untaken, other_taken, making_holds}
 
@@ -23,13 +11,7 @@ module _ {D : Type 0} (told : D → Option History) (plan : D → Option FaultPl
   stopped_within : (front back : List Step) (count : ℕ) {old new : D}
       → Made told plan (λ any. front) (length front) (stopped_after count) old new
       → Made told plan (λ any. front ++ back) (length (front ++ back)) (stopped_after count) old new
-  stopped_within front back count {old = old} made = record {
-    calls =
-        let le : count ≤ length front = made.planned.0 in
-        let same : take count front ≡ take count (front ++ back) = rw take-append-le refl in
-        made.calls ∙ ap (λ (steps : List Step). option_map (λ before. with_made count steps before) (told old)) same;
-    planned = (omega (arith, made.planned.0, length-append front back), made.planned.1, made.planned.2);
-  }
+  stopped_within front back count {old = old} made = grind (arith, common_steps, take-append-le) steps 20000
 
   -- over what a disk holds
   module _ (before : History) {old : D} (is : told old ≡ Some before) where
@@ -72,9 +54,7 @@ module _ {D : Type 0} (told : D → Option History) (plan : D → Option FaultPl
       now_told = finds.1.calls ∙ ap (option_map (λ (h : History). after_course passed (make_steps (content h)) h)) is
 
       now_holds : WhereTold (told mid) (λ history. image_made image ≡ content history)
-      now_holds history some =
-          let same : after_course passed (make_steps image) before ≡ history = cc (now_told, some) in
-          sym (making_holds before) ∙ ap content same
+      now_holds history some = grind (arith, common_steps, now_told, making_holds) steps 20000
 
       opened : (course : Course) {new : D} → Made told plan open_steps 3 course mid new
           → Made told plan journal_steps (length (journal_steps image))
@@ -120,8 +100,7 @@ module _ {D : Type 0} (told : D → Option History) (plan : D → Option FaultPl
           → InitsOver told plan (init_steps identity) image old (Err why) new
       not_begun (InitMade count) new refused =
           let all : journal_steps image ≡ init_steps identity image =
-          sym (ap (λ (b : Bool). journal_steps image ++ cond b [] (append_steps 4 identity)) refused.0
-          ∙ append-nil (journal_steps image)) in (
+          grind (arith, common_steps, append-nil) steps 20000 in (
             refused.0,
             refused.1,
             over (init_steps identity)
@@ -231,8 +210,7 @@ begun told plan journal now identity settled appended kept = at (told journal.di
   where
     at : (t : Option History) → told journal.disk ≡ t
         → WhereTold (told now.disk) (λ history. IsSettled history (identity ∷ []))
-    at None is = λ history some. (let none : told now.disk ≡ None = appended.made.calls ∙ ap (option_map _) is in
-        absurd (cc (none, some)))
+    at None is = grind (arith, common_steps) steps 20000
     at (Some before) is = λ history some. kept before is [] (settled before is).read history some
 
 -- an append of the identity behind the journals of the notes and of the leaves
@@ -258,14 +236,7 @@ module _ {D E : Type 0} (told : D → Option History) (plan : D → Option Fault
       → faults new_notes ≡ faults_after (faults mid) (is_init_fault result)
       → IfErr result (λ why. RefusesBehindNotes told plan faults leaves_told leaves_plan leaves_faults identity
       notes leaves why new_notes new_leaves)
-  pair_stops (Ok done) appends count = tt
-  pair_stops (Err why) appends count = inr (inr (
-    record {
-      stopped = λ before is. stops_behind told plan before is identity (begins.inits before is) why new_notes appends;
-      count = count ∙ ap (λ (n : ℕ). faults_after n (is_fault_refusal why)) begins.count;
-    },
-    beside,
-  ))
+  pair_stops result appends count = grind (arith, common_steps, stops_behind) steps 20000
 
 -- the notes begun behind the journal of the leaves
 module _ {D E : Type 0} (told : D → Option History) (plan : D → Option FaultPlan) (faults : D → ℕ)

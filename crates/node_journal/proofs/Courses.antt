@@ -1,9 +1,5 @@
 -- Device calls behind others.
-use Rattle.std.proofs.Common.{◌≡◌, ◌<◌, ◌≤◌, ◌⊎◌, ◌+◌, ◌-◌, ℕ, zero, suc, false, List, [], ◌∷◌, ◌++◌, length, take, refl, ◌∙◌, ap, inl, inr, arith, length-append}
-use Rattle.std.proofs.lemmas.Bool.{cases_lt}
-use Rattle.std.proofs.lemmas.List.{take-append-le}
-use Rattle.crash_disk.specs.Disk.{Step, DeviceCall, History}
-use Rattle.crash_disk.specs.Calls.{Course, passed, failed_after, stopped_after, made_of, after_course}
+use Rattle.node_journal.proofs.Words.{◌≡◌, ◌<◌, ◌≤◌, ◌⊎◌, ◌+◌, ◌-◌, ℕ, zero, suc, false, List, [], ◌∷◌, ◌++◌, length, take, refl, ◌∙◌, ap, inl, inr, arith, cases_lt, take-append-le, common_steps, Step, DeviceCall, History, Course, passed, failed_after, stopped_after, made_of, after_course}
 
 -- calls that all passed, and then the ones behind them
 made_of-all : (front back : List Step) (count : ℕ) (calls : List DeviceCall)
@@ -27,8 +23,7 @@ take-append_all : (front back : List Step) (count : ℕ)
 take-append_all [] back count = (let e : 0 + count ≡ count = omega arith in ap (λ (n : ℕ). take n back) e)
 take-append_all (step ∷ front) back count =
     let e : suc (length front) + count ≡ suc (length front + count) = omega arith in
-    ap (λ (n : ℕ). take n (step ∷ (front ++ back))) e
-    ∙ ap (λ (l : List Step). step ∷ l) (take-append_all front back count)
+    grind (arith, common_steps, take-append_all front back count) steps 20000
 
 module _ (front back : List Step) (history : History) where
   abbrev with_calls : List DeviceCall → History
@@ -40,10 +35,7 @@ module _ (front back : List Step) (history : History) where
   -- all of them
   pub after_both : after_course passed (front ++ back) history ≡ after_course passed back
       (after_course passed front history)
-  after_both =
-      let len = length-append front back in
-      over _ _ (ap (λ (n : ℕ). made_of n (front ++ back) history.calls) len
-      ∙ made_of-all front back (length back) history.calls)
+  after_both = grind (arith, common_steps, over, made_of-all) steps 20000
 
   -- however they went, they came to those behind or not
   pub course_split : (course : Course)
@@ -57,9 +49,7 @@ module _ (front back : List Step) (history : History) where
         let is : count ≡ length front + (count - length front) = omega arith in
         inr (
           failed_after (count - length front),
-          over _ _
-              (ap (λ (n : ℕ). made_of n (front ++ back) history.calls) is
-              ∙ made_of-all front back (count - length front) history.calls),
+          grind (arith, common_steps, over, made_of-all) steps 20000,
         )
   ]
   course_split (stopped_after count) = elim (cases_lt count (length front)) [
@@ -67,18 +57,13 @@ module _ (front back : List Step) (history : History) where
         let le : count ≤ length front = omega (arith, less) in
         inl (
           stopped_after count,
-          over _ _
-              (ap (λ (steps : List Step). made_of count steps history.calls) (take-append-le count front back le)),
+          grind (arith, common_steps, over, take-append-le) steps 20000,
         )
     | inr more ↦
         let rest : ℕ = count - length front in
         let is : count ≡ length front + rest = omega arith in
         inr (
           stopped_after rest,
-          over _ _ (
-              ap (λ (n : ℕ). made_of n (take n (front ++ back)) history.calls) is
-              ∙ ap (λ (steps : List Step). made_of (length front + rest) steps history.calls)
-              (take-append_all front back rest)
-              ∙ made_of-all front (take rest back) rest history.calls),
+          grind (arith, common_steps, over, take-append_all, made_of-all) steps 20000,
         )
   ]

@@ -1,21 +1,9 @@
 -- What an append tells of records that are kept in a journal, whoever keeps them: a node's notes, a key's leaves, a
 -- two-level signer's entries.
-use Rattle.std.proofs.Common.{◌≡◌, ◌≤◌, ◌+◌, ℕ, Bool, true, false, List, [], ◌∷◌, ◌++◌, length, Option, Some, None, Result, Ok, Err, refl, sym, ◌∙◌, ap, subst, inl, inr, arith, append-nil}
-use Rattle.std.specs.Option.{option_map}
-use Rattle.std.specs.Result.{is_err}
-use Rattle.plasma_base.specs.Causes.{faults_after}
-use Rattle.crash_disk.specs.Disk.{Step, History, content, MayLeave, FaultPlan, LeavesOnly, after_calls}
-use Rattle.crash_disk.specs.Calls.{WhereTold, IsStill, Course, passed, failed_after, stopped_after, after_course, Made}
+use Rattle.node_journal.proofs.Words.{◌≡◌, ◌≤◌, ℕ, Bool, true, false, List, [], ◌∷◌, ◌++◌, length, Option, Some, Result, Ok, Err, refl, sym, ◌∙◌, ap, subst, inl, inr, arith, append-nil, option_map, is_err, common_steps, faults_after, Step, History, content, MayLeave, FaultPlan, LeavesOnly, after_calls, WhereTold, IsStill, Course, passed, failed_after, stopped_after, after_course, Made, most, spelled, append_steps, open_steps, JournalState, Keeps, KeepsWithOrWithout, IsSettled, has_spare, is_fault, Appended, AppendFailed, Appends, JournalRefusal, AlreadyMade, NotJournal, RecordTooLong, DeviceFault, Closed, NoMemory, leaves_now, NotesState, note_steps, KeepsAtAnyMoment, Added, AddFailed, Opened}
 use Rattle.crash_disk.proofs.Plans.{passing-zero, after_calls-zero}
-use Rattle.gate_journal.specs.Image.{most, spelled}
-use Rattle.gate_journal.specs.Steps.{append_steps, open_steps}
-use Rattle.gate_journal.specs.Journal.{JournalState, Keeps, KeepsWithOrWithout, IsSettled, has_spare, is_fault, Appended, AppendFailed, Appends}
 use Rattle.gate_journal.specs.Life.{Stay}
-use Rattle.gate_journal.specs.declared.refusal.JournalRefusal.{JournalRefusal}
-use Rattle.gate_journal.specs.declared.refusal.JournalRefusal.TheVariants.{AlreadyMade, NotJournal, RecordTooLong, DeviceFault, Closed, NoMemory}
 use Rattle.gate_journal.proofs.Lives.{in_from}
-use Rattle.gate_journal.proofs.Rest.{leaves_now}
-use Rattle.node_journal.specs.Notes.{NotesState, note_steps, KeepsAtAnyMoment, Added, AddFailed, Opened}
 
 -- the records over a journal
 abbrev pub notes_over : {D : Type 0} → JournalState D → List (List ℕ) → NotesState D
@@ -31,8 +19,7 @@ AnyMoment told body old new = old.closed ≡ false → WhereTold (told old.disk)
 told_of : (f : History → History) (told now : Option History) (history : History) → now ≡ option_map f told
     → now ≡ Some history
     → (before : History) × (told ≡ Some before) × (history ≡ f before)
-told_of f None now history is some = absurd (cc (is, some))
-told_of f (Some before) now history is some = (before, refl, cc (is, some))
+told_of f told now history is some = grind (arith, common_steps) steps 20000
 
 -- what is told after device calls is told of something
 told_before : {D : Type 0} {told : D → Option History} {plan : D → Option FaultPlan} {old new : D}
@@ -75,8 +62,7 @@ module _ {D : Type 0} (told : D → Option History) (plan : D → Option FaultPl
     (spare : has_spare old (length body) ≡ true) where
   pub goes_through : (r : Result Unit JournalRefusal) (new : JournalState D) → Appends told plan body old r new
       → is_err r ≡ false → (r ≡ Ok tt) × Appended told plan body old new
-  goes_through (Ok done) new did ok = (refl, did)
-  goes_through (Err why) new did ok = absurd (cc ok)
+  goes_through r new did ok = grind (arith, common_steps) steps 20000
 
   pub meets_fault : (r : Result Unit JournalRefusal) (new : JournalState D) → Appends told plan body old r new
       → is_err r ≡ true → (is_fault r ≡ true) × AppendFailed told plan body old new
@@ -98,8 +84,7 @@ module _ {D : Type 0} (told : D → Option History) (plan : D → Option FaultPl
   behind : old.closed ≡ false → (course : Course)
       → Made told plan (λ image. append_steps old.gate body) 4 course old.disk new.disk
       → Made told plan (note_steps records body) 4 course old.disk new.disk
-  behind open' course made = subst (λ (g : ℕ). Made told plan
-      (λ image. append_steps g body) 4 course old.disk new.disk) (place open') made
+  behind open' course made = grind (arith, common_steps) steps 20000
 
   pub moments : old.closed ≡ false → KeepsAtAnyMoment records body (told old.disk) (told new.disk)
   moments open' before is = any open' before is records (settled open' before is).read
@@ -145,28 +130,20 @@ module _ {D : Type 0} (told : D → Option History) (plan : D → Option FaultPl
 -- an opening that made no call
 not_begun : (t : Option History) → t ≡ option_map (λ before. after_course (stopped_after 0)
     (open_steps (content before)) before) t
-not_begun None = refl
-not_begun (Some before) = refl
+not_begun t = grind (arith, common_steps) steps 20000
 
 same_plan : (plan : Option FaultPlan) → plan ≡ option_map (after_calls 0) plan
-same_plan None = refl
-same_plan (Some plan) = ap (λ (p : FaultPlan). Some p) (sym (after_calls-zero plan))
+same_plan plan = grind (arith, common_steps, after_calls-zero) steps 20000
 
 pub none_made : {D : Type 0} (told : D → Option History) (plan : D → Option FaultPlan) (disk : D)
     → Made told plan open_steps 3 (stopped_after 0) disk disk
-none_made told plan disk = record {
-  calls = not_begun (told disk);
-  planned = (omega arith, (λ foretold some. passing-zero foretold), same_plan (plan disk));
-}
+none_made told plan disk = grind (arith, common_steps, not_begun, passing-zero, same_plan) steps 20000
 
 -- calls that were made, and then none
 pub made_still : {D : Type 0} {told : D → Option History} {plan : D → Option FaultPlan} {faults : D → ℕ}
     {old mid new : D} → Made told plan open_steps 3 passed old mid → IsStill told plan faults mid new
     → Made told plan open_steps 3 passed old new
-made_still made still = record {
-  calls = still.same_calls ∙ made.calls;
-  planned = (made.planned.0, still.same_plan ∙ made.planned.1);
-}
+made_still made still = grind (arith, common_steps) steps 20000
 
 -- an opening that went through: the journal keeps these bodies, which are the records by the reader of images
 pub journal_opened : {D : Type 0} (told : D → Option History) (plan : D → Option FaultPlan) (faults : D → ℕ)

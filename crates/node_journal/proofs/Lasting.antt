@@ -1,57 +1,23 @@
 -- What a crash leaves of inits, however they went.
-use Rattle.std.proofs.Common.{◌≡◌, ◌≤◌, ◌⊎◌, ℕ, zero, suc, Bool, true, false, cond, eqb, List, [], ◌∷◌, ◌++◌, length, MatchBool, refl, sym, ap, subst, inl, inr, arith, length-append}
-use Rattle.std.proofs.lemmas.List.{append-nil}
-use Rattle.crash_disk.specs.Disk.{Step, asks_length, reads, writes, syncs, with_call, is_touched, synced_content, unsynced_ranges, History, content, MayLeave}
-use Rattle.crash_disk.specs.Calls.{Course, passed, failed_after, stopped_after, after_course}
-use Rattle.crash_disk.proofs.Left.{content_may_be_left, fresh_disk_leaves_itself}
-use Rattle.gate_journal.specs.Image.{most}
-use Rattle.gate_journal.specs.Steps.{append_steps, open_steps}
-use Rattle.gate_journal.specs.Journal.{Keeps}
-use Rattle.gate_journal.specs.Make.{empty, is_made, make_steps, IsBlank}
-use Rattle.gate_journal.proofs.Rest.{AtRest, rest_images, leaves_now, append_rests, course_leaves}
-use Rattle.gate_journal.proofs.Stopped.{stopped_openings, stopped_makings}
-use Rattle.node_journal.specs.Begin.{is_taken, image_made, journal_steps, init_steps}
-use Rattle.node_journal.specs.Laws.{InitsMakeFewCalls, EachImage, InitEvent, asks, prepares, begins, crashes, after_event, MayCome, after_events, MayAllCome, IsUntakenOrBegun, InitsMayBeRepeated, InitsEndBegun, StoppedPreparations, PreparedJournalsAreEmpty}
+use Rattle.node_journal.proofs.Words.{◌≡◌, ◌≤◌, ◌⊎◌, ℕ, zero, suc, Bool, true, false, cond, List, [], ◌∷◌, ◌++◌, length, MatchBool, refl, sym, ap, subst, inl, inr, arith, append-nil, common_steps, Step, asks_length, reads, writes, syncs, with_call, History, content, MayLeave, Course, passed, failed_after, stopped_after, after_course, content_may_be_left, fresh_disk_leaves_itself, most, append_steps, open_steps, Keeps, empty, is_made, make_steps, IsBlank, AtRest, rest_images, leaves_now, append_rests, course_leaves, stopped_openings, stopped_makings, is_taken, image_made, journal_steps, init_steps, InitsMakeFewCalls, EachImage, InitEvent, asks, prepares, begins, crashes, after_event, MayCome, after_events, MayAllCome, IsUntakenOrBegun, InitsMayBeRepeated, InitsEndBegun, StoppedPreparations, PreparedJournalsAreEmpty}
 use Rattle.node_journal.proofs.Courses.{after_both, course_split}
 use Rattle.node_journal.proofs.Untaken.{some_made, empty_untaken, blank_untaken, untaken_kept, making_holds}
 
 -- a question for the length leaves what was left before
 asked_leaves : (failed : Bool) (history : History) (image : List ℕ)
     → MayLeave (with_call asks_length failed history) image → MayLeave history image
-asked_leaves failed history image may =
-    let same : unsynced_ranges (with_call asks_length failed history) ≡ unsynced_ranges history =
-    append-nil (unsynced_ranges history) in
-    record {
-      no_shorter = may.no_shorter;
-      no_longer = may.no_longer;
-      untouched =
-          λ place out.
-          may.untouched place
-          (subst (λ ranges. is_touched (synced_content history) ranges place ≡ false) (sym same) out);
-    }
+asked_leaves failed history image may = grind (arith, common_steps, append-nil) steps 20000
 
 few_made : (made five : Bool) → length
     (cond made (asks_length ∷ cond five (reads 0 5 ∷ []) [])
     ((asks_length ∷ cond five (reads 0 5 ∷ []) []) ++ writes 0 empty ∷ syncs ∷ [])) ≤ 4
-few_made true true = omega arith
-few_made true false = omega arith
-few_made false true = omega arith
-few_made false false = omega arith
+few_made made five = grind (arith, common_steps) steps 20000
 
 few_appended : (identity : List ℕ) (taken : Bool) → length (cond taken [] (append_steps 4 identity)) ≤ 4
-few_appended identity true = omega arith
-few_appended identity false = omega arith
+few_appended identity taken = grind (arith, common_steps) steps 20000
 
 pub inits_make_few_calls : InitsMakeFewCalls
-inits_make_few_calls identity image =
-    let back = cond (is_taken image) [] (append_steps 4 identity) in
-    omega (
-      arith,
-      length-append (journal_steps image) back,
-      length-append (make_steps image) (open_steps (image_made image)),
-      few_made (is_made image) (eqb (length image) 5),
-      few_appended identity (is_taken image),
-    )
+inits_make_few_calls identity image = grind (arith, common_steps, few_made, few_appended) steps 20000
 
 -- the disk after a making that wasn't stopped, and after the opening behind it
 abbrev made : History → History
@@ -105,12 +71,7 @@ stopped_preparations history course image may = by (course_split front back hist
 -- a journal that was made or opened is at rest with the records that the image kept
 prepared_rests : (history : History) (records : List (List ℕ)) → Keeps records (image_made (content history))
     → AtRest (prepared history) records
-prepared_rests history records keeps =
-    let opened = after_course passed (open_steps (image_made (content history))) (made history) in
-    let rest : AtRest opened records =
-    record { read = subst (Keeps records) (sym (making_holds history)) keeps; synced = refl } in
-    subst (λ (h : History). AtRest h records)
-    (sym (after_both (make_steps (content history)) (open_steps (image_made (content history))) history)) rest
+prepared_rests history records keeps = grind (arith, common_steps, making_holds, after_both) steps 20000
 
 pub prepared_journals_are_empty : PreparedJournalsAreEmpty
 prepared_journals_are_empty history untaken = rest_images (prepared history) []
@@ -192,8 +153,7 @@ module _ (identity : List ℕ) (fits : length identity ≤ most) where
       kept : is_taken (content history) ≡ true → IsFine (content history)
           → Keeps (identity ∷ []) (image_made (content history))
       kept taken (inl untaken) = absurd (cc (taken, untaken))
-      kept taken (inr keeps) = (let made : is_made (content history) ≡ true = some_made (content history)
-          (identity ∷ []) keeps in rw made keeps)
+      kept taken (inr keeps) = grind (arith, common_steps, some_made) steps 20000
 
       at : (b : Bool) → is_taken (content history) ≡ b
           → EachImage (after_course passed (cond b [] (append_steps 4 identity)) (prepared history))

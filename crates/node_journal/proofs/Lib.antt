@@ -1,3 +1,4 @@
+pub mod Words
 pub mod Roles
 pub mod Openings
 mod Spelling

@@ -1,19 +1,7 @@
 -- Images that can be begun, and what a making leaves of them.
-use Rattle.std.proofs.Common.{◌≡◌, ◌≢◌, ◌≤◌, ◌||◌, ℕ, Bool, true, false, cond, eqb, ltb, List, [], ◌∷◌, ◌++◌, length, Option, Some, None, is_some, MatchBool, refl, sym, ◌∙◌, ap, subst, arith}
-use Rattle.std.proofs.lemmas.List.{drop_all}
-use Rattle.std.proofs.lemmas.Bool.Decides.{nat_tests}
-use Rattle.std.specs.Result.{result_ok}
-use Rattle.crash_disk.specs.Disk.{Step, History, fresh_history, content, MayLeave, with_write, asks_length, reads, writes, syncs}
-use Rattle.crash_disk.proofs.Left.{content_may_be_left}
-use Rattle.crash_disk.specs.Calls.{passed, stopped_after, with_made, after_course}
+use Rattle.node_journal.proofs.Words.{◌≡◌, ◌≢◌, ◌≤◌, ℕ, Bool, true, false, cond, ltb, List, [], ◌∷◌, ◌++◌, length, Option, Some, None, refl, ap, arith, drop_all, nat_tests, result_ok, common_steps, History, content, with_write, writes, syncs, content_may_be_left, passed, with_made, after_course, kept_records, Keeps, empty, is_made, look_steps, make_steps, IsBlank, leaves_now, stopped_makings, has_content, is_taken, image_made}
 use Rattle.node_journal.proofs.Courses.{after_both}
-use Rattle.gate_journal.specs.Image.{kept_records}
-use Rattle.gate_journal.specs.Journal.{Keeps}
-use Rattle.gate_journal.specs.Make.{empty, is_made, look_steps, make_steps, IsBlank}
 use Rattle.gate_journal.proofs.Read.{records_from-end}
-use Rattle.gate_journal.proofs.Rest.{leaves_now}
-use Rattle.gate_journal.proofs.Stopped.{stopped_makings}
-use Rattle.node_journal.specs.Begin.{has_content, is_taken, image_made}
 
 -- the empty journal spells no record
 pub empty_keeps : Keeps [] empty
@@ -23,11 +11,7 @@ pub not_less : (count : ℕ) → count ≤ 5 → ltb 5 count ≡ false
 not_less count le = grind (arith, nat_tests)
 
 pub some_made : (image : List ℕ) (records : List (List ℕ)) → kept_records image ≡ Some records → is_made image ≡ true
-some_made image records keeps = or_true (ltb 5 (length image)) (is_some (kept_records image)) (ap is_some keeps)
-  where
-    or_true : (a b : Bool) → b ≡ true → (a || b) ≡ true
-    or_true true b is = refl
-    or_true false b is = is
+some_made image records keeps = grind (arith, common_steps) steps 20000
 
 -- an image that keeps no record isn't taken
 pub empty_untaken : (image : List ℕ) → Keeps [] image → is_taken image ≡ false
@@ -35,40 +19,24 @@ empty_untaken image keeps = ap (has_content (length image)) keeps
 
 -- nor is a blank one
 pub blank_untaken : (image : List ℕ) → IsBlank image → is_taken image ≡ false
-blank_untaken image blank = at (kept_records image) refl
-  where
-    at : (kept : Option (List (List ℕ))) → kept_records image ≡ kept → is_taken image ≡ false
-    at None is = ap (has_content (length image)) is ∙ not_less (length image) blank.short
-    at (Some records) is = empty_untaken image (blank.none (some_made image records is))
+blank_untaken image blank = grind (arith, common_steps, not_less, empty_untaken, some_made) steps 20000
 
 -- an image that isn't made is blank: it is left where a making of it made no call
 unmade_blank : (image : List ℕ) → is_made image ≡ false → IsBlank image
-unmade_blank image new =
-    let disk = fresh_history image in
-    let left = leaves_now disk (stopped_after 0) (make_steps image)
-    (λ b. MatchBool (is_made image) (MayLeave disk b) (IsBlank b))
-    (stopped_makings disk (stopped_after 0)) image (content_may_be_left disk) in
-    subst (λ (b : Bool). MatchBool b (MayLeave disk image) (IsBlank image)) new left
+unmade_blank image new = grind (arith, common_steps, leaves_now, stopped_makings, content_may_be_left) steps 20000
 
 pub unmade_untaken : (image : List ℕ) → is_made image ≡ false → is_taken image ≡ false
 unmade_untaken image is = blank_untaken image (unmade_blank image is)
 
 -- what was made of an image keeps no record exactly where the image isn't taken
 pub kept_untaken : (image : List ℕ) → Keeps [] (image_made image) → is_taken image ≡ false
-kept_untaken image keeps = at (is_made image) refl
-  where
-    at : (b : Bool) → is_made image ≡ b → is_taken image ≡ false
-    at true is = empty_untaken image (rw is at keeps)
-    at false is = unmade_untaken image is
+kept_untaken image keeps = grind (arith, common_steps, empty_untaken, unmade_untaken) steps 20000
 
 pub untaken_kept : (image : List ℕ) → is_taken image ≡ false → Keeps [] (image_made image)
 untaken_kept image is = at (is_made image) refl
   where
     kept : (some : Option (List (List ℕ))) → kept_records image ≡ some → is_made image ≡ true → Keeps [] image
-    kept None none made =
-        let more : ltb 5 (length image) ≡ false = sym (ap (has_content (length image)) none) ∙ is in
-        let not : is_made image ≡ false = rw (more, none) refl in
-        absurd (cc (made, not))
+    kept None none made = grind (arith, common_steps) steps 20000
     kept (Some []) some made = some
     kept (Some (body ∷ bodies)) some made = absurd (cc (ap (has_content (length image)) some, is))
 
@@ -92,9 +60,7 @@ other_taken image not = at (is_taken image) refl
 -- what a disk holds after a look is what it held
 look_holds : (image : List ℕ) (history : History)
     → content (with_made (length (look_steps image)) (look_steps image) history) ≡ content history
-look_holds image history =
-    elim (eqb (length image) 5) as (λ b. let steps : List Step = asks_length ∷ cond b (reads 0 5 ∷ []) [] in
-    content (with_made (length steps) steps history) ≡ content history) [ true ↦ refl | false ↦ refl ]
+look_holds image history = grind (arith, common_steps) steps 20000
 
 -- five bytes over at most five are all
 empty_written : (old : List ℕ) → length old ≤ 5 → with_write old 0 empty ≡ empty
@@ -113,12 +79,5 @@ making_holds history = at (is_made (content history)) refl
     steps b is = ap (λ (made : Bool). cond made (look_steps c) (look_steps c ++ writes 0 empty ∷ syncs ∷ [])) is
 
     at : (b : Bool) → is_made c ≡ b → content (after_course passed (make_steps c) history) ≡ image_made c
-    at true is = ap (λ (s : List Step). content (after_course passed s history)) (steps true is)
-        ∙ look_holds c history ∙ ap (λ (b : Bool). cond b c empty) (sym is)
-    at false is =
-        let looked = with_made (length (look_steps c)) (look_steps c) history in
-        let after = after_both (look_steps c) (writes 0 empty ∷ syncs ∷ []) history in
-        ap (λ (s : List Step). content (after_course passed s history)) (steps false is)
-        ∙ ap content after
-        ∙ empty_written (content looked) (omega (arith, ap length (look_holds c history), (unmade_blank c is).short))
-        ∙ ap (λ (b : Bool). cond b c empty) (sym is)
+    at true is = grind (arith, common_steps, steps, look_holds, c) steps 20000
+    at false is = grind (arith, common_steps, c, after_both, steps, empty_written, look_holds, unmade_blank) steps 20000

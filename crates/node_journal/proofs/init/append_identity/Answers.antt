@@ -1,6 +1,4 @@
-use Rattle.std.proofs.Common.{[], ◌∷◌, sym, subst}
-use Rattle.crash_disk.specs.Calls.{WhereTold}
-use Rattle.gate_journal.specs.Journal.{IsSettled}
+use Rattle.node_journal.proofs.Words.{[], ◌∷◌, sym, subst, WhereTold, IsSettled}
 use Rattle.node_journal.proofs.Beginning.{begun}
 use Rattle.node_journal.proofs.init.append_identity.Goals as goal
 

@@ -1,5 +1,4 @@
-use Rattle.std.proofs.Common.{sym, subst}
-use Rattle.node_journal.specs.Begin.{journal_steps, PassesInit}
+use Rattle.node_journal.proofs.Words.{sym, subst, journal_steps, PassesInit}
 use Rattle.node_journal.proofs.Beginning.{begun_passes, begun_stops}
 use Rattle.node_journal.proofs.init.begin_behind_leaves.Goals as goal
 

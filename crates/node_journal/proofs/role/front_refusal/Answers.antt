@@ -1,7 +1,4 @@
-use Rattle.std.proofs.Common.{◌≡◌, ◌<◌, true, length, Err, sym, ◌∙◌, ap, arith}
-use Rattle.std.proofs.lemmas.Bool.Decides.{nat_tests}
-use Rattle.gate_journal.specs.Image.{spelled}
-use Rattle.node_journal.specs.Role.{are_of}
+use Rattle.node_journal.proofs.Words.{◌≡◌, ◌<◌, true, length, Err, sym, ◌∙◌, ap, arith, nat_tests, spelled, are_of}
 use Rattle.node_journal.proofs.Roles.{all_front, front_all, not_of}
 use Rattle.node_journal.proofs.role.front_refusal.Goals.{else-not-is_empty-via-then-not-is_empty+else-front-records, else-not-is_empty-via-else-not-is_empty}
 use Rattle.node_journal.proofs.role.front_refusal.Goals as goal

@@ -1,6 +1,4 @@
-use Rattle.std.proofs.Common.{◌≡◌, ◌<◌, ◌+◌, ℕ, List, [], ◌∷◌, ◌++◌, length, take, get_or, sym, ◌∙◌, ap, arith}
-use Rattle.std.proofs.lemmas.List.{take_more}
-use Rattle.gate_journal.specs.Image.{spelled}
+use Rattle.node_journal.proofs.Words.{◌≡◌, ◌<◌, ◌+◌, ℕ, List, [], ◌∷◌, ◌++◌, length, take, get_or, sym, ◌∙◌, ap, arith, take_more, spelled}
 use Rattle.node_journal.proofs.Spelling.{length-spelled-push}
 use Rattle.node_journal.proofs.role.gate_behind.Goals as goal
 

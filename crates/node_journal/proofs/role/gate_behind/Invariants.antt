@@ -1,5 +1,4 @@
-use Rattle.std.proofs.Common.{◌≡◌, length, take}
-use Rattle.gate_journal.specs.Image.{spelled}
+use Rattle.node_journal.proofs.Words.{◌≡◌, length, take, spelled}
 use Rattle.node_journal.proofs.role.gate_behind.Given as goal
 
 abbrev pub invariant-records : goal.invariant-records

@@ -1,5 +1,4 @@
-use Rattle.std.proofs.Common.{◌≡◌, ◌+◌, drop}
-use Rattle.std.specs.List.{prefix_len}
+use Rattle.node_journal.proofs.Words.{◌≡◌, ◌+◌, drop, prefix_len}
 use Rattle.node_journal.proofs.role.notes_count.Given as goal
 
 abbrev pub invariant-loop-count : goal.invariant-loop-count

@@ -1,8 +1,4 @@
-use Rattle.std.proofs.Common.{rules, ◌≡◌, true, false, Some, List, ℕ, [], ◌∷◌, ◌++◌, ◌≤◌, length, sym, ◌∙◌, ap, subst}
-use Rattle.gate_journal.specs.Image.{most}
-use Rattle.node_journal.specs.Role.{may_follow}
-use Rattle.node_journal.specs.Notes.{NotesState, NotesAndRole, Added, Did}
-use Rattle.node_journal.specs.Inside.{stop_of}
+use Rattle.node_journal.proofs.Words.{rules, ◌≡◌, true, false, Some, List, ℕ, [], ◌∷◌, ◌++◌, ◌≤◌, length, sym, ◌∙◌, ap, subst, most, may_follow, NotesState, NotesAndRole, Added, Did, stop_of}
 use Rattle.node_journal.specs.declared.stop.Stop.{Stop}
 use Rattle.node_journal.proofs.Adding.{note_went, sound_more, stopped}
 use Rattle.node_journal.proofs.Keeping.{notes_over}
