@@ -1,17 +1,6 @@
 -- What an append and an opening tell of leaves.
-use Rattle.std.proofs.Common.{◌≡◌, ◌≤◌, ◌+◌, ◌-◌, max, ℕ, cond, true, false, List, [], ◌∷◌, ◌++◌, length, Option, Ok, sym, ◌∙◌, ap, subst, arith, length-append}
+use Rattle.leaf_journal.proofs.Words.{◌≡◌, ◌≤◌, ◌+◌, ◌-◌, max, ℕ, cond, true, false, List, [], ◌∷◌, ◌++◌, length, Option, Ok, sym, ◌∙◌, ap, subst, arith, length-append, lt-ltb, le-leb, common_steps, History, FaultPlan, WhereTold, most, spelled, JournalState, IsSettled, fresh_journal, with_spare, has_spare, Appended, AppendFailed, KeepsAtAnyMoment, moments_stay, settled_stays, are_leaf_records, every_message, leaf_records, may_follow, leaves_of, LeafRecordsState, IsSound}
 use Rattle.std.specs.Result.{is_ok}
-use Rattle.std.proofs.lemmas.Bool.{lt-ltb, le-leb}
-use Rattle.std.proofs.lemmas.Grind.{common_steps}
-use Rattle.crash_disk.specs.Disk.{History, FaultPlan}
-use Rattle.crash_disk.specs.Calls.{WhereTold}
-use Rattle.gate_journal.specs.Image.{most, spelled}
-use Rattle.gate_journal.specs.Journal.{JournalState, IsSettled, fresh_journal, with_spare, has_spare, Appended, AppendFailed}
-use Rattle.node_journal.specs.Notes.{KeepsAtAnyMoment}
-use Rattle.node_journal.proofs.Keeping.{moments_stay, settled_stays}
-use Rattle.leaf_journal.specs.Records.{are_leaf_records, every_message, leaf_records, may_follow}
-use Rattle.leaf_journal.specs.Leaves.{leaves_of}
-use Rattle.leaf_journal.specs.Sound.{LeafRecordsState, IsSound}
 use Rattle.leaf_journal.proofs.Form.{all_same, one_more, count_within, follows_short, spelled-count}
 
 are_ok : (leaves : ℕ) (records : List (List ℕ)) → leaf_records leaves records ≡ Ok records

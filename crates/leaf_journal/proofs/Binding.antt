@@ -1,15 +1,7 @@
 -- The records that bind and migrate, behind others.
-use Rattle.std.proofs.Common.{◌≡◌, ◌<◌, ◌≤◌, ℕ, true, false, List, [], ◌∷◌, ◌++◌, length, Option, Some, None, Err, refl, ◌∙◌, ap, subst, inl, inr, arith}
-use Rattle.std.proofs.lemmas.Bool.{cases_Bool, eq-eqb, lt-ltb, le-leb}
-use Rattle.std.proofs.lemmas.List.{take_at, drop_at}
+use Rattle.leaf_journal.proofs.Words.{◌≡◌, ◌<◌, ◌≤◌, ℕ, true, false, List, [], ◌∷◌, ◌++◌, length, Option, Some, None, Err, refl, ◌∙◌, ap, subst, inl, inr, arith, cases_Bool, eq-eqb, lt-ltb, le-leb, take_at, drop_at, bytes_eq-Decides, common_steps, History, FaultPlan, NotesState, Did, leaves_of, leaf_effect, bind_stop, binding_record, is_marked, is_marker, marker, may_follow, MayBind, messages_of, with_number}
 use Rattle.std.proofs.lemmas.List.Folds.{list_any-append}
-use Rattle.std.proofs.lemmas.Slice.Eq.{bytes_eq-Decides}
-use Rattle.std.proofs.lemmas.Grind.{common_steps}
-use Rattle.crash_disk.specs.Disk.{History, FaultPlan}
-use Rattle.node_journal.specs.Notes.{NotesState, Did}
 use Rattle.leaf_journal.specs.declared.refusal.BindRefusal.{BindRefusal}
-use Rattle.leaf_journal.specs.Leaves.{leaves_of, leaf_effect, bind_stop}
-use Rattle.leaf_journal.specs.Records.{binding_record, is_marked, is_marker, marker, may_follow, MayBind, messages_of, with_number}
 use Rattle.leaf_journal.proofs.Messages.{other_length}
 use Rattle.leaf_journal.proofs.Form.{more-marked, more-unmarked, more-mark}
 

@@ -1,13 +1,5 @@
 -- When records are those of leaves.
-use Rattle.std.proofs.Common.{◌≡◌, ◌⊎◌, ◌<◌, ◌≤◌, ◌+◌, ◌*◌, ℕ, suc, get_or, Bool, true, false, cond, eqb, ltb, List, [], ◌∷◌, ◌++◌, length, drop, take, map, Ok, Err, refl, sym, ◌∙◌, ap, subst, inl, inr, arith, append_assoc, append-nil, length-append}
-use Rattle.std.specs.Prelude.{◌&&◌, ◌||◌}
-use Rattle.std.specs.Int.{w32, to_be_bytes}
-use Rattle.std.proofs.lemmas.Bool.{cases_Bool, eqb-true, ltb-true, leb-true, and_parts}
-use Rattle.std.proofs.lemmas.List.{take-append-drop}
-use Rattle.std.proofs.Math.Seq.{drop-cons}
-use Rattle.std.proofs.lemmas.Slice.Eq.{bytes_eq-Decides}
-use Rattle.gate_journal.specs.Image.{spelled, spelled_record, spelled_records}
-use Rattle.leaf_journal.specs.Records.{every_message, first_length, has_number, is_marked, is_marker, leaf_records, leaf_records_of, may_follow, may_follow_of, messages_of, records_behind_of}
+use Rattle.leaf_journal.proofs.Words.{◌≡◌, ◌⊎◌, ◌<◌, ◌≤◌, ◌+◌, ◌*◌, ℕ, suc, get_or, Bool, true, false, cond, eqb, ltb, List, [], ◌∷◌, ◌++◌, length, drop, take, map, Ok, Err, refl, sym, ◌∙◌, ap, subst, inl, inr, arith, append_assoc, append-nil, length-append, ◌&&◌, ◌||◌, w32, to_be_bytes, cases_Bool, eqb-true, ltb-true, leb-true, and_parts, take-append-drop, drop-cons, bytes_eq-Decides, spelled, spelled_record, spelled_records, every_message, first_length, has_number, is_marked, is_marker, leaf_records, leaf_records_of, may_follow, may_follow_of, messages_of, records_behind_of}
 use Rattle.leaf_journal.proofs.Messages.{messages-append, messages-count, marker_length}
 
 -- over a test that each message has to pass

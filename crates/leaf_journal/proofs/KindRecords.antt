@@ -1,14 +1,6 @@
 -- Records whose messages pass a test: they are those that have the form, where each message passes.
-use Rattle.std.proofs.Common.{◌≡◌, ◌↔◌, ℕ, Bool, true, false, cond, List, [], ◌∷◌, ◌++◌, length, map, drop, Result, Ok, Err, refl, sym, ◌∙◌, ap, subst, inl, inr, eqb, ltb, arith}
-use Rattle.std.specs.Prelude.{◌&&◌, ◌||◌}
-use Rattle.std.specs.List.{All}
-use Rattle.std.proofs.lemmas.Bool.{cases_Bool}
-use Rattle.std.proofs.lemmas.List.{take_at, drop_at}
+use Rattle.leaf_journal.proofs.Words.{◌≡◌, ◌↔◌, ℕ, Bool, true, false, cond, List, [], ◌∷◌, ◌++◌, length, map, drop, Result, Ok, Err, refl, sym, ◌∙◌, ap, subst, inl, inr, eqb, ltb, arith, ◌&&◌, ◌||◌, All, cases_Bool, take_at, drop_at, common_steps, journal_in, every_message, has_number, is_marked, is_marker, leaf_records, leaf_records_of, leaf_records_read, leaf_records_read_of, may_follow, may_follow_of, messages_of, records_behind_of, MessagesPass, KindRecords}
 use Rattle.std.proofs.lemmas.List.Elements.{All-drop, All-head, All-nil, All-push, All-take}
-use Rattle.std.proofs.lemmas.Grind.{common_steps}
-use Rattle.gate_journal.specs.Image.{journal_in}
-use Rattle.leaf_journal.specs.Records.{every_message, has_number, is_marked, is_marker, leaf_records, leaf_records_of, leaf_records_read, leaf_records_read_of, may_follow, may_follow_of, messages_of, records_behind_of, MessagesPass}
-use Rattle.leaf_journal.specs.Laws.{KindRecords}
 use Rattle.leaf_journal.proofs.Messages.{messages-append}
 use Rattle.leaf_journal.proofs.Form.{all_same, behind-all, behind-keeps, kinds, more-marked, more-unmarked, more-mark, one_more, step_on, step_out}
 

@@ -1,22 +1,12 @@
 -- What a journal of leaves keeps through its life.
-use Rattle.std.proofs.Common.{◌≡◌, ◌≤◌, ℕ, true, false, cond, List, [], ◌∷◌, ◌++◌, length, map, drop, get_or, Some, Ok, refl, arith, lit≤}
-use Rattle.std.specs.List.{slice_get}
-use Rattle.std.proofs.lemmas.Option.{option_and_then_some, slice_get_within, get_or_from_slice_get}
-use Rattle.std.proofs.lemmas.List.{get_or_append_left}
-use Rattle.std.proofs.lemmas.Grind.{common_steps}
-use Rattle.crash_disk.specs.Disk.{content}
-use Rattle.crash_disk.specs.Calls.{with_made}
+use Rattle.leaf_journal.proofs.Words.{◌≡◌, ◌≤◌, ℕ, true, false, cond, List, [], ◌∷◌, ◌++◌, length, map, drop, get_or, Some, Ok, refl, arith, lit≤, slice_get, option_and_then_some, slice_get_within, get_or_from_slice_get, get_or_append_left, common_steps, content, with_made, most, spelled, Keeps, are_leaf_records, binding_record, every_message, is_marked, leaf_records, leaf_records_in, marker, messages_of, ALeafHasOneMessage, BoundMessagesStay, LeavesStay, StoppedBinds, StoppedMigrations, life_after}
 use Rattle.crash_disk.specs.Outcomes.{image_after}
 use Rattle.crash_disk.proofs.Left.{content_may_be_left}
-use Rattle.gate_journal.specs.Image.{most, spelled}
 use Rattle.gate_journal.specs.Steps.{append_steps}
-use Rattle.gate_journal.specs.Journal.{Keeps}
 use Rattle.gate_journal.specs.Laws.{is_added}
 use Rattle.gate_journal.specs.Life.{records_in, Continue}
 use Rattle.gate_journal.proofs.Lives.{in_keeps, records_stay, made_journals_stay}
 use Rattle.gate_journal.proofs.Crash.{stopped_appends}
-use Rattle.leaf_journal.specs.Records.{are_leaf_records, binding_record, every_message, is_marked, leaf_records, leaf_records_in, marker, messages_of}
-use Rattle.leaf_journal.specs.Laws.{ALeafHasOneMessage, BoundMessagesStay, MadeJournalsStay as LeavesStay, StoppedBinds, StoppedMigrations, life_after}
 use Rattle.leaf_journal.proofs.Messages.{messages-append}
 use Rattle.leaf_journal.proofs.Form.{all_same, one_more, follows_short}
 use Rattle.leaf_journal.proofs.Binding.{binding_follows, binding-messages, marker_follows, marker-messages, marker-marked}

@@ -1,16 +1,5 @@
 -- The messages of records.
-use mir.Val.{bool_byte}
-use Rattle.std.proofs.Common.{◌≡◌, ◌≢◌, ◌<◌, ◌≤◌, ◌+◌, ℕ, zero, suc, Bool, true, false, not, cond, List, [], ◌∷◌, ◌++◌, length, map, drop, refl, ◌∙◌, ap, arith, ltb}
-use Rattle.std.proofs.lemmas.Bool.{cases_Bool, lt-ltb, le-ltb}
-use Rattle.std.proofs.lemmas.List.{map-append, length-map}
-use Rattle.std.proofs.lemmas.Option.{slice_get-map}
-use Rattle.std.proofs.lemmas.Slice.Eq.{bytes_eq-Decides}
-use Rattle.std.specs.Option.{option_map}
-use Rattle.std.specs.List.{slice_get}
-use Rattle.std.specs.Prelude.{◌||◌}
-use Rattle.std.proofs.lemmas.Grind.{common_steps}
-use Rattle.leaf_journal.specs.Records.{is_marked, is_marker, marker, messages_of}
-use Rattle.leaf_journal.specs.Sound.{first_count}
+use Rattle.leaf_journal.proofs.Words.{bool_byte, ◌≡◌, ◌≢◌, ◌<◌, ◌≤◌, ◌+◌, ℕ, zero, suc, Bool, true, false, not, cond, List, [], ◌∷◌, ◌++◌, length, map, drop, refl, ◌∙◌, ap, arith, ltb, cases_Bool, lt-ltb, le-ltb, map-append, length-map, slice_get-map, bytes_eq-Decides, option_map, slice_get, ◌||◌, common_steps, is_marked, is_marker, marker, messages_of, first_count}
 
 -- the messages of more records behind some
 pub messages-append : (xs ys : List (List ℕ)) → messages_of (xs ++ ys) ≡ messages_of xs ++ cond (is_marked xs)

@@ -1,9 +1,4 @@
-use Rattle.std.proofs.Common.{◌≡◌, true, false, ◌<◌, ◌+◌, ◌∙◌, ℕ, List, suc, [], ◌∷◌, ◌++◌, length, take, get_or, refl, sym, ap, arith}
-use Rattle.std.proofs.lemmas.List.{take_all, get_or_default}
-use Rattle.std.proofs.Math.Seq.{take-suc}
-use Rattle.gate_journal.specs.Image.{spelled}
-use Rattle.leaf_journal.specs.Records.{may_follow_of, records_behind_of}
-use Rattle.leaf_journal.specs.Sound.{LeafRecordsState}
+use Rattle.leaf_journal.proofs.Words.{◌≡◌, true, false, ◌<◌, ◌+◌, ◌∙◌, ℕ, List, suc, [], ◌∷◌, ◌++◌, length, take, get_or, refl, sym, ap, arith, take_all, get_or_default, take-suc, spelled, may_follow_of, records_behind_of, LeafRecordsState}
 use Rattle.leaf_journal.proofs.Form.{are_few, count_within, one_more, refused_at, spelled-count}
 use Rattle.leaf_journal.proofs.reading.read_records.Goals as goal
 

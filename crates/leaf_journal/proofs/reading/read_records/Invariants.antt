@@ -1,6 +1,4 @@
-use Rattle.std.proofs.Common.{◌≡◌, ◌≤◌, Ok, take, length}
-use Rattle.gate_journal.specs.Image.{spelled}
-use Rattle.leaf_journal.specs.Records.{leaf_records, leaf_records_of}
+use Rattle.leaf_journal.proofs.Words.{◌≡◌, ◌≤◌, Ok, take, length, spelled, leaf_records, leaf_records_of}
 use Rattle.leaf_journal.proofs.reading.read_records.Given as goal
 
 abbrev pub invariant-loop-body : goal.invariant-loop-body

@@ -1,10 +1,5 @@
-use Rattle.std.proofs.Common.{◌≡◌, true, false, ℕ, [], ◌∷◌, ◌++◌, refl, sym, ◌∙◌, ap, subst}
+use Rattle.leaf_journal.proofs.Words.{◌≡◌, true, false, ℕ, [], ◌∷◌, ◌++◌, refl, sym, ◌∙◌, ap, subst, Added, AddFailed, notes_over, goes_through, meets_fault, moments, settled_now, went, met, may_follow, LeavesState, leaves_of, LeafRecordsState}
 use Rattle.plasma_base.specs.Causes.{faults_after}
-use Rattle.node_journal.specs.Notes.{Added, AddFailed}
-use Rattle.node_journal.proofs.Keeping.{notes_over, goes_through, meets_fault, moments, settled_now, went, met}
-use Rattle.leaf_journal.specs.Records.{may_follow}
-use Rattle.leaf_journal.specs.Leaves.{LeavesState, leaves_of}
-use Rattle.leaf_journal.specs.Sound.{LeafRecordsState}
 use Rattle.leaf_journal.proofs.Adding.{ready_from, fits, spare, fault_sound, append_sound}
 use Rattle.leaf_journal.proofs.leaves.Leaves.add.Goals as goal
 

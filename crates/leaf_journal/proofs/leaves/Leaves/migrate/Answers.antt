@@ -1,5 +1,4 @@
-use Rattle.std.proofs.Common.{ℕ, List, [], ◌∷◌, ◌++◌, sym, ◌∙◌, ap}
-use Rattle.leaf_journal.specs.Records.{messages_of}
+use Rattle.leaf_journal.proofs.Words.{ℕ, List, [], ◌∷◌, ◌++◌, sym, ◌∙◌, ap, messages_of}
 use Rattle.leaf_journal.proofs.Binding.{marker-messages}
 use Rattle.leaf_journal.proofs.leaves.Leaves.migrate.Goals as goal
 

@@ -1,13 +1,6 @@
-use Rattle.std.proofs.Common.{◌≡◌, ℕ, List, Ok, refl, sym, ◌∙◌, ap, subst, arith}
-use Rattle.crash_disk.specs.Calls.{WhereTold}
-use Rattle.crash_disk.specs.Disk.{content}
+use Rattle.leaf_journal.proofs.Words.{◌≡◌, ℕ, List, Ok, refl, sym, ◌∙◌, ap, subst, arith, WhereTold, content, Keeps, IsSettled, leaf_records, leaf_records_of, leaf_records_in_of, leaf_records_read_of, leaves_of, LeafRecordsState, none_made, journal_opened}
 use Rattle.lms_sign.specs.Tree.{public_key_of}
-use Rattle.gate_journal.specs.Journal.{Keeps, IsSettled}
 use Rattle.lms_sign.proofs.Sizes.{leaf_count-le}
-use Rattle.leaf_journal.specs.Records.{leaf_records, leaf_records_of, leaf_records_in_of, leaf_records_read_of}
-use Rattle.leaf_journal.specs.Leaves.{leaves_of}
-use Rattle.leaf_journal.specs.Sound.{LeafRecordsState}
-use Rattle.node_journal.proofs.Keeping.{none_made, journal_opened}
 use Rattle.node_journal.proofs.Openings.{read_kept}
 use Rattle.leaf_journal.proofs.Form.{all_same}
 use Rattle.leaf_journal.proofs.Adding.{open_after, opened_sound}

@@ -1,7 +1,4 @@
-use Rattle.std.proofs.Common.{◌≡◌, ◌≢◌, ◌∙◌, ◌++◌, ◌∷◌, [], ℕ, List, drop, length, ap, sym, refl, arith, inl, inr}
-use Rattle.std.specs.Int.{w32, to_be_bytes}
-use Rattle.std.proofs.lemmas.List.{drop_at}
-use Rattle.leaf_journal.specs.Records.{messages_of}
+use Rattle.leaf_journal.proofs.Words.{◌≡◌, ◌≢◌, ◌∙◌, ◌++◌, ◌∷◌, [], ℕ, List, drop, length, ap, sym, refl, arith, inl, inr, w32, to_be_bytes, drop_at, messages_of}
 use Rattle.leaf_journal.proofs.Messages.{other_length}
 use Rattle.leaf_journal.proofs.Form.{more-marked, more-unmarked}
 use Rattle.leaf_journal.proofs.records.LeafRecords.binding_record.Goals as goal

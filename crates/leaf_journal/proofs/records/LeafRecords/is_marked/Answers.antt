@@ -1,6 +1,4 @@
-use Rattle.std.proofs.Common.{◌≡◌, ◌∙◌, sym, ap, arith, length}
-use Rattle.leaf_journal.specs.Records.{is_marked}
-use Rattle.leaf_journal.specs.Sound.{LeafRecordsState}
+use Rattle.leaf_journal.proofs.Words.{◌≡◌, ◌∙◌, sym, ap, arith, length, is_marked, LeafRecordsState}
 use Rattle.leaf_journal.proofs.Messages.{is_marked-count}
 use Rattle.leaf_journal.proofs.records.LeafRecords.is_marked.Goals as goal
 

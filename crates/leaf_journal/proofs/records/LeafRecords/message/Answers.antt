@@ -1,11 +1,4 @@
-use Rattle.std.proofs.Common.{◌≡◌, ◌∙◌, ◌<◌, ◌≤◌, ◌+◌, ◌-◌, ℕ, Some, None, List, suc, drop, take, min, length, ap, sym, subst, arith, inl, inr, Option, Bor}
-use Rattle.std.proofs.lemmas.Bool.{cases_lt}
-use Rattle.std.proofs.lemmas.List.{take_rest, drop_all}
-use Rattle.std.proofs.lemmas.Option.{slice_get_within}
-use Rattle.std.specs.Option.{OnSome, option_map, option_copied}
-use Rattle.std.specs.List.{slice_get}
-use Rattle.leaf_journal.specs.Records.{messages_of}
-use Rattle.leaf_journal.specs.Sound.{LeafRecordsState, first_count}
+use Rattle.leaf_journal.proofs.Words.{◌≡◌, ◌∙◌, ◌<◌, ◌≤◌, ◌+◌, ◌-◌, ℕ, Some, None, List, suc, drop, take, min, length, ap, sym, subst, arith, inl, inr, Option, Bor, cases_lt, take_rest, drop_all, slice_get_within, OnSome, option_map, option_copied, slice_get, messages_of, LeafRecordsState, first_count}
 use Rattle.leaf_journal.proofs.Messages.{get-before, get-behind}
 use Rattle.leaf_journal.proofs.Form.{are_few}
 use Rattle.leaf_journal.proofs.records.LeafRecords.message.Goals as goal

@@ -1,6 +1,4 @@
-use Rattle.std.proofs.Common.{refl, arith}
-use Rattle.leaf_journal.specs.Records.{records_behind_of}
-use Rattle.leaf_journal.specs.Sound.{first_count}
+use Rattle.leaf_journal.proofs.Words.{refl, arith, records_behind_of, first_count}
 use Rattle.leaf_journal.proofs.records.LeafRecords.new.Goals as goal
 
 pub invariant_of-result : goal.invariant_of-result

@@ -1,5 +1,4 @@
-use Rattle.std.proofs.Common.{ap, arith, length}
-use Rattle.leaf_journal.specs.Sound.{LeafRecordsState}
+use Rattle.leaf_journal.proofs.Words.{ap, arith, length, LeafRecordsState}
 use Rattle.leaf_journal.proofs.Form.{count_within}
 use Rattle.leaf_journal.proofs.records.LeafRecords.others.Goals as goal
 

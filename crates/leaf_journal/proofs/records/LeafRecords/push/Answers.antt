@@ -1,7 +1,4 @@
-use Rattle.std.proofs.Common.{rules, ◌≡◌, true, ◌∙◌, ℕ, not, List, [], ◌∷◌, ◌++◌, Ok, ap, sym, subst, refl, arith, length-append}
-use Rattle.std.specs.Prelude.{◌||◌}
-use Rattle.leaf_journal.specs.Records.{every_message, is_marked, is_marker, leaf_records, may_follow}
-use Rattle.leaf_journal.specs.Sound.{LeafRecordsState, first_count}
+use Rattle.leaf_journal.proofs.Words.{rules, ◌≡◌, true, ◌∙◌, ℕ, not, List, [], ◌∷◌, ◌++◌, Ok, ap, sym, subst, refl, arith, length-append, ◌||◌, every_message, is_marked, is_marker, leaf_records, may_follow, LeafRecordsState, first_count}
 use Rattle.leaf_journal.proofs.Messages.{byte_le, byte-not, first-append, first_le}
 use Rattle.leaf_journal.proofs.Form.{one_more, count_within}
 use Rattle.leaf_journal.proofs.records.LeafRecords.push.Goals as goal

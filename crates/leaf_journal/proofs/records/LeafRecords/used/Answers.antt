@@ -1,7 +1,4 @@
-use mir.Val.{bool_byte}
-use Rattle.std.proofs.Common.{◌≡◌, ◌∙◌, ap, arith, length, cond}
-use Rattle.leaf_journal.specs.Records.{is_marked, messages_of}
-use Rattle.leaf_journal.specs.Sound.{LeafRecordsState}
+use Rattle.leaf_journal.proofs.Words.{bool_byte, ◌≡◌, ◌∙◌, ap, arith, length, cond, is_marked, messages_of, LeafRecordsState}
 use Rattle.leaf_journal.proofs.Messages.{byte_of, messages-count}
 use Rattle.leaf_journal.proofs.Form.{are_few, count_within}
 use Rattle.leaf_journal.proofs.records.LeafRecords.used.Goals as goal
