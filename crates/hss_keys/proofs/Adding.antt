@@ -1,27 +1,6 @@
 -- What an append and an opening tell of a two-level signer's records.
-use Rattle.std.proofs.Common.{◌≡◌, ◌≤◌, ◌+◌, ◌-◌, ℕ, true, false, List, [], ◌∷◌, ◌++◌, length, Option, Some, Result, Ok, Err, sym, ◌∙◌, ap, subst, arith}
-use Rattle.std.specs.Result.{is_ok, IfErr, OnErr, OnOk}
-use Rattle.std.proofs.lemmas.Bool.{lt-ltb, le-leb}
-use Rattle.std.proofs.lemmas.Grind.{common_steps}
-use Rattle.plasma_base.specs.Causes.{faults_after}
-use Rattle.crash_disk.specs.Disk.{History, FaultPlan}
-use Rattle.crash_disk.specs.Calls.{WhereTold, IsStill, passed}
+use Rattle.hss_keys.proofs.Words.{◌≡◌, ◌≤◌, ◌+◌, ◌-◌, ℕ, true, false, List, [], ◌∷◌, ◌++◌, length, Option, Some, Result, Ok, Err, sym, ◌∙◌, ap, subst, arith, is_ok, IfErr, OnErr, OnOk, lt-ltb, le-leb, common_steps, faults_after, History, FaultPlan, WhereTold, IsStill, passed, most, spelled, JournalState, IsSettled, fresh_journal, with_spare, has_spare, Appended, AppendFailed, NotesState, KeepsAtAnyMoment, stopped_by, Added, AddFailed, Did, Stay, Stop, StopClosed, StopNoMemory, StopFault, moments_stay, settled_stays, leaf_count, HssSeed, Entry, Binds, entries_of, are_level_records, level_records, may_follow, leaves_left, LevelRecordsState, IsKept, HasRoom}
 use Rattle.crash_disk.proofs.Calls.{made_from}
-use Rattle.gate_journal.specs.Image.{most, spelled}
-use Rattle.gate_journal.specs.Journal.{JournalState, IsSettled, fresh_journal, with_spare, has_spare, Appended, AppendFailed}
-use Rattle.node_journal.specs.Notes.{NotesState, KeepsAtAnyMoment, stopped_by, Added, AddFailed, Did}
-use Rattle.gate_journal.specs.Life.{Stay}
-use Rattle.node_journal.specs.declared.stop.Stop.{Stop}
-use Rattle.node_journal.specs.declared.stop.Stop.TheVariants.{Closed as StopClosed, NoMemory as StopNoMemory, DeviceFault as StopFault}
-use Rattle.node_journal.proofs.Keeping.{moments_stay, settled_stays}
-use Rattle.lms_sign.specs.Types.{leaf_count}
-use Rattle.hss_keys.specs.declared.seed.HssSeed.{HssSeed}
-use Rattle.hss_keys.specs.declared.entry.Entry.{Entry}
-use Rattle.hss_keys.specs.declared.entry.Entry.TheVariants.{Binds}
-use Rattle.hss_keys.specs.Entries.{entries_of}
-use Rattle.hss_keys.specs.Form.{are_level_records, level_records, may_follow}
-use Rattle.hss_keys.specs.Levels.{leaves_left}
-use Rattle.hss_keys.specs.Sound.{LevelRecordsState, IsKept, HasRoom}
 use Rattle.hss_keys.proofs.Counts.{left-less, left-most, IsNextLeaf}
 use Rattle.hss_keys.proofs.Form.{all_same, one_more, spelled-count}
 

@@ -1,16 +1,5 @@
 -- What records keep of a bound that a two-level signer gives out.
-use Rattle.std.proofs.Common.{◌≡◌, ◌<◌, ◌+◌, ◌-◌, ℕ, List, [], ◌∷◌, ◌++◌, length, Some, Ok, sym, ◌∙◌, ap, arith, length-append}
-use Rattle.std.specs.List.{slice_get}
-use Rattle.std.proofs.lemmas.List.{get_or_at}
-use Rattle.std.proofs.lemmas.Option.{slice_get-get_or}
-use Rattle.std.proofs.lemmas.Grind.{common_steps}
-use Rattle.hss_keys.specs.declared.seed.HssSeed.{HssSeed}
-use Rattle.hss_keys.specs.declared.entry.Entry.{Entry}
-use Rattle.hss_keys.specs.declared.entry.Entry.TheVariants.{Binds}
-use Rattle.hss_keys.specs.Keys.{bottom_key}
-use Rattle.hss_keys.specs.Entries.{entries_of, entry_text, key_at, message_at, messages_under, opened_count, used_in, IsEntry}
-use Rattle.hss_keys.specs.Form.{level_records}
-use Rattle.hss_keys.specs.Levels.{bound_of, HssBoundState, KeepsBound}
+use Rattle.hss_keys.proofs.Words.{◌≡◌, ◌<◌, ◌+◌, ◌-◌, ℕ, List, [], ◌∷◌, ◌++◌, length, Some, Ok, sym, ◌∙◌, ap, arith, length-append, slice_get, get_or_at, slice_get-get_or, common_steps, HssSeed, Entry, Binds, bottom_key, entries_of, entry_text, key_at, message_at, messages_under, opened_count, used_in, IsEntry, level_records, bound_of, HssBoundState, KeepsBound}
 use Rattle.hss_keys.proofs.Counts.{entries-more, messages-bound}
 use Rattle.hss_keys.proofs.Form.{are_counted}
 use Rattle.hss_keys.proofs.Spelling.{entries_are_read_back}

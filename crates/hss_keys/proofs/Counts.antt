@@ -1,21 +1,5 @@
 -- The bottom keys and the messages of entries, and what one more entry does to them.
-use Rattle.std.proofs.Common.{◌≡◌, ◌≢◌, ◌<◌, ◌≤◌, ◌+◌, ◌-◌, ℕ, suc, true, false, cond, List, [], ◌∷◌, ◌++◌, length, drop, get_or, Option, Some, None, refl, sym, ◌∙◌, ap, inl, inr, arith, eqb, append-nil, length-append}
-use Rattle.std.specs.Option.{option_and_then, option_map_or}
-use Rattle.std.specs.List.{cons_option, slice_get}
-use Rattle.std.proofs.lemmas.Bool.{cases_eq, cases_lt, and_parts, eq-eqb, eqb-true, lt-ltb, ltb-true, ne_eqb}
-use Rattle.std.proofs.lemmas.List.{drop_all, get_or_append_left, get_or_at}
-use Rattle.std.proofs.lemmas.Option.{slice_get_within}
-use Rattle.std.proofs.lemmas.List.Elements.{filter_map-append}
-use Rattle.std.proofs.Math.Seq.{drop-cons}
-use Rattle.std.proofs.lemmas.Slice.Eq.{bytes_eq-Decides}
-use Rattle.lms_sign.specs.Types.{leaf_count}
-use Rattle.hss_keys.specs.declared.seed.HssSeed.{HssSeed}
-use Rattle.hss_keys.specs.declared.entry.Entry.{Entry}
-use Rattle.hss_keys.specs.declared.entry.Entry.TheVariants.{Opens, Binds}
-use Rattle.hss_keys.specs.Keys.{bottom_key}
-use Rattle.hss_keys.specs.Entries.{entry_in, entries_of, key_in, keys_of, message_under, messages_under, opened_count, used_in}
-use Rattle.hss_keys.specs.Form.{entry_may_follow, may_follow}
-use Rattle.hss_keys.specs.Levels.{has_leaf, leaves_left}
+use Rattle.hss_keys.proofs.Words.{◌≡◌, ◌≢◌, ◌<◌, ◌≤◌, ◌+◌, ◌-◌, ℕ, suc, true, false, cond, List, [], ◌∷◌, ◌++◌, length, drop, get_or, Option, Some, None, refl, sym, ◌∙◌, ap, inl, inr, arith, eqb, append-nil, length-append, option_and_then, option_map_or, cons_option, slice_get, cases_eq, cases_lt, and_parts, eq-eqb, eqb-true, lt-ltb, ltb-true, ne_eqb, drop_all, get_or_append_left, get_or_at, slice_get_within, filter_map-append, drop-cons, bytes_eq-Decides, leaf_count, HssSeed, Entry, Opens, Binds, bottom_key, entry_in, entries_of, key_in, keys_of, message_under, messages_under, opened_count, used_in, entry_may_follow, may_follow, has_leaf, leaves_left}
 
 -- the entries of one more record
 pub entries-more : (records : List (List ℕ)) (body : List ℕ) (entry : Entry) → entry_in body ≡ Some entry

@@ -1,15 +1,6 @@
 -- What an advance and a bind do by their definitions, in each case.
-use Rattle.std.proofs.Common.{◌≡◌, ◌<◌, ◌≤◌, ◌-◌, ℕ, true, false, List, Some, Result, Ok, Err, refl}
-use Rattle.std.proofs.lemmas.Bool.{lt-ltb, le-ltb}
-use Rattle.node_journal.specs.Effect.{Effect, only}
-use Rattle.lms_sign.specs.Types.{leaf_count}
-use Rattle.hss_keys.specs.declared.seed.HssSeed.{HssSeed}
-use Rattle.hss_keys.specs.declared.entry.Entry.TheVariants.{Opens, Binds}
-use Rattle.hss_keys.specs.declared.refusal.LevelRefusal.{LevelRefusal}
+use Rattle.hss_keys.proofs.Words.{◌≡◌, ◌<◌, ◌≤◌, ◌-◌, ℕ, true, false, List, Some, Result, Ok, Err, refl, lt-ltb, le-ltb, Effect, only, leaf_count, HssSeed, Opens, Binds, LevelRefusal, bottom_key, entry_text, entries_of, opened_count, used_in, advance_effect, bind_effect, bound_of, has_leaf, HssBoundState}
 use Rattle.hss_keys.specs.declared.refusal.LevelRefusal.TheVariants.{LevelOpen, LevelSpent, KeySpent}
-use Rattle.hss_keys.specs.Keys.{bottom_key}
-use Rattle.hss_keys.specs.Entries.{entry_text, entries_of, opened_count, used_in}
-use Rattle.hss_keys.specs.Levels.{advance_effect, bind_effect, bound_of, has_leaf, HssBoundState}
 
 module _ (seed : HssSeed) (records : List (List ℕ)) where
   pub advance-open : has_leaf seed (entries_of records) ≡ true

@@ -1,13 +1,5 @@
 -- When records are those of a two-level signer.
-use Rattle.std.proofs.Common.{◌≡◌, ◌<◌, ◌+◌, ℕ, suc, get_or, true, false, List, [], ◌∷◌, ◌++◌, length, drop, take, Ok, Err, refl, sym, ◌∙◌, ap, subst, inl, inr, arith, append_assoc, append-nil}
-use Rattle.std.proofs.lemmas.Bool.{cases_Bool}
-use Rattle.std.proofs.lemmas.List.{take-append-drop}
-use Rattle.std.proofs.Math.Seq.{drop-cons}
-use Rattle.std.proofs.lemmas.Grind.{common_steps}
-use Rattle.gate_journal.specs.Image.{spelled}
-use Rattle.hss_keys.specs.declared.seed.HssSeed.{HssSeed}
-use Rattle.hss_keys.specs.Entries.{entries_of}
-use Rattle.hss_keys.specs.Form.{level_records, may_follow, records_behind}
+use Rattle.hss_keys.proofs.Words.{◌≡◌, ◌<◌, ◌+◌, ℕ, suc, get_or, true, false, List, [], ◌∷◌, ◌++◌, length, drop, take, Ok, Err, refl, sym, ◌∙◌, ap, subst, inl, inr, arith, append_assoc, append-nil, cases_Bool, take-append-drop, drop-cons, common_steps, spelled, HssSeed, entries_of, level_records, may_follow, records_behind}
 use Rattle.hss_keys.proofs.Counts.{entries-more, entry_counted, follows_as, no_records_counted, AreCounted}
 
 module _ (seed : HssSeed) where

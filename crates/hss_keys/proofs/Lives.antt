@@ -1,26 +1,10 @@
 -- What a journal of a two-level signer keeps through its life.
-use Rattle.std.proofs.Common.{◌≡◌, ◌≤◌, ℕ, true, false, cond, List, [], ◌∷◌, ◌++◌, length, Option, Some, None, Ok, refl, ◌∙◌, ap, arith, length-append}
-use Rattle.std.specs.List.{slice_get}
-use Rattle.std.specs.Option.{unwrap_or}
-use Rattle.std.proofs.lemmas.Option.{same_Some, slice_get_within, slice_get-get_or, get_or_from_slice_get}
-use Rattle.std.proofs.lemmas.List.{get_or_append_left}
-use Rattle.std.proofs.lemmas.List.Elements.{filter_map-append}
-use Rattle.std.proofs.lemmas.Grind.{common_steps}
-use Rattle.crash_disk.specs.Disk.{content}
-use Rattle.crash_disk.specs.Calls.{with_made}
+use Rattle.hss_keys.proofs.Words.{◌≡◌, ◌≤◌, ℕ, true, false, cond, List, [], ◌∷◌, ◌++◌, length, Option, Some, None, Ok, refl, ◌∙◌, ap, arith, length-append, slice_get, unwrap_or, same_Some, slice_get_within, slice_get-get_or, get_or_from_slice_get, get_or_append_left, filter_map-append, common_steps, content, with_made, most, spelled, append_steps, Keeps, records_in, Continue, HssSeed, entry_text, entries_of, keys_of, messages_under, are_level_records, level_records, level_records_in, may_follow, HssBoundState, KeepsBound}
 use Rattle.crash_disk.specs.Outcomes.{image_after}
 use Rattle.crash_disk.proofs.Left.{content_may_be_left}
-use Rattle.gate_journal.specs.Image.{most, spelled}
-use Rattle.gate_journal.specs.Steps.{append_steps}
-use Rattle.gate_journal.specs.Journal.{Keeps}
 use Rattle.gate_journal.specs.Laws.{is_added}
-use Rattle.gate_journal.specs.Life.{records_in, Continue}
 use Rattle.gate_journal.proofs.Lives.{in_keeps, records_stay, made_journals_stay}
 use Rattle.gate_journal.proofs.Crash.{stopped_appends}
-use Rattle.hss_keys.specs.declared.seed.HssSeed.{HssSeed}
-use Rattle.hss_keys.specs.Entries.{entry_text, entries_of, keys_of, messages_under}
-use Rattle.hss_keys.specs.Form.{are_level_records, level_records, level_records_in, may_follow}
-use Rattle.hss_keys.specs.Levels.{HssBoundState, KeepsBound}
 use Rattle.hss_keys.specs.Laws.{NoLeafSignsTwoMessages, BoundsStay, KeptBoundsStay, LevelJournalsStay, StoppedLevelAppends, life_after}
 use Rattle.hss_keys.proofs.Spelling.{entries_are_read_back, text-short}
 use Rattle.hss_keys.proofs.Counts.{entries-more, follows_from}

@@ -1,26 +1,9 @@
 -- What an opening of a two-level signer did, in the words of a node's notes.
-use Rattle.std.proofs.Common.{◌≡◌, ◌≤◌, ℕ, false, List, Option, Some, Result, Ok, Err, sym, ◌∙◌, ap, subst, arith}
-use Rattle.std.specs.Result.{result_ok}
-use Rattle.std.proofs.lemmas.Grind.{common_steps}
-use Rattle.plasma_base.specs.Causes.{faults_after}
-use Rattle.crash_disk.specs.Disk.{History, content, FaultPlan}
-use Rattle.crash_disk.specs.Calls.{WhereTold, IsStill, passed, stopped_after, Made}
-use Rattle.gate_journal.specs.Image.{journal_in}
-use Rattle.gate_journal.specs.Steps.{open_steps}
-use Rattle.gate_journal.specs.Journal.{JournalState, Keeps, IsSettled, RefusesOpen, is_device_fault, fresh_journal, with_spare}
-use Rattle.node_journal.specs.Notes.{Opened, RefusesRole}
+use Rattle.hss_keys.proofs.Words.{◌≡◌, ◌≤◌, ℕ, false, List, Option, Some, Result, Ok, Err, sym, ◌∙◌, ap, subst, arith, result_ok, common_steps, faults_after, History, content, FaultPlan, WhereTold, IsStill, passed, stopped_after, Made, journal_in, open_steps, JournalState, Keeps, IsSettled, RefusesOpen, is_device_fault, fresh_journal, with_spare, Opened, RefusesRole, leaf_count, HssSeed, hss_key_of, entries_of, level_records, level_records_in, level_records_read, leaves_left, LevelRecordsState, IsFormRefusal, IsSound, notes_over, made_still, journal_opened}
 use Rattle.gate_journal.specs.declared.refusal.JournalRefusal.{JournalRefusal}
-use Rattle.lms_sign.specs.Types.{leaf_count}
-use Rattle.hss_keys.specs.declared.seed.HssSeed.{HssSeed}
-use Rattle.hss_keys.specs.Keys.{hss_key_of}
-use Rattle.hss_keys.specs.Entries.{entries_of}
-use Rattle.hss_keys.specs.Form.{level_records, level_records_in, level_records_read}
-use Rattle.hss_keys.specs.Levels.{leaves_left}
-use Rattle.hss_keys.specs.Sound.{LevelRecordsState, IsFormRefusal, IsSound}
 use Rattle.hss_keys.proofs.Counts.{left-most}
 use Rattle.hss_keys.proofs.Form.{all_same}
 use Rattle.hss_keys.proofs.Lives.{in_image}
-use Rattle.node_journal.proofs.Keeping.{notes_over, made_still, journal_opened}
 use Rattle.hss_keys.proofs.Adding.{opened_kept, reserved_room}
 
 -- what an image keeps is read by the signer's reader

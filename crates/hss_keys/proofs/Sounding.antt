@@ -1,17 +1,5 @@
 -- What holds of a two-level signer after a reservation and after an append.
-use Rattle.std.proofs.Common.{◌≡◌, ◌≤◌, ◌+◌, ℕ, true, false, List, [], ◌∷◌, ◌++◌, Option, Result, Ok, Err, refl, sym, ◌∙◌, ap, arith}
-use Rattle.std.specs.Result.{OnErr, OnOk}
-use Rattle.std.proofs.lemmas.Grind.{common_steps}
-use Rattle.crash_disk.specs.Disk.{History}
-use Rattle.gate_journal.specs.Journal.{JournalState, with_spare}
-use Rattle.node_journal.specs.declared.stop.Stop.{Stop}
-use Rattle.lms_sign.specs.Types.{leaf_count}
-use Rattle.hss_keys.specs.declared.entry.Entry.TheVariants.{Binds}
-use Rattle.hss_keys.specs.Keys.{hss_key_of}
-use Rattle.hss_keys.specs.Entries.{entries_of, entry_text, IsEntry}
-use Rattle.hss_keys.specs.Form.{entry_may_follow}
-use Rattle.hss_keys.specs.Levels.{leaves_left}
-use Rattle.hss_keys.specs.Sound.{LevelRecordsState, HasRoom, IsKept, IsSound}
+use Rattle.hss_keys.proofs.Words.{◌≡◌, ◌≤◌, ◌+◌, ℕ, true, false, List, [], ◌∷◌, ◌++◌, Option, Result, Ok, Err, refl, sym, ◌∙◌, ap, arith, OnErr, OnOk, common_steps, History, JournalState, with_spare, Stop, leaf_count, Binds, hss_key_of, entries_of, entry_text, IsEntry, entry_may_follow, leaves_left, LevelRecordsState, HasRoom, IsKept, IsSound}
 use Rattle.hss_keys.proofs.Spelling.{entries_are_read_back}
 use Rattle.hss_keys.proofs.Counts.{entries-more, has-next, left-one, next_leaf}
 use Rattle.hss_keys.proofs.Adding.{kept_same, level_room, message_room, reserved_room}

@@ -1,19 +1,7 @@
 -- What records spell.
-use Rattle.std.proofs.Common.{◌≡◌, ℕ, ◌+◌, ◌-◌, ◌^◌, ◌<◌, ◌≤◌, Bool, true, cond, List, [], ◌∷◌, ◌++◌, length, take, drop, get_or, Some, None, refl, sym, ◌∙◌, ap, inl, inr, arith, append_assoc, length-append, length-take, length-drop}
-use Rattle.std.specs.Prelude.{◌⊎◌}
-use Rattle.std.specs.List.{All}
+use Rattle.hss_keys.proofs.Words.{◌≡◌, ℕ, ◌+◌, ◌-◌, ◌^◌, ◌<◌, ◌≤◌, Bool, true, cond, List, [], ◌∷◌, ◌++◌, length, take, drop, get_or, Some, None, refl, sym, ◌∙◌, ap, inl, inr, arith, append_assoc, length-append, length-take, length-drop, ◌⊎◌, All, cases_lt, and_parts, eqb-true, le-leb, leb-true, get_or_past, take_at, drop_at, take-append-drop, drop-drop, All-drop, All-get_or, All-take, same_Some, common_steps, u32str, u32_at, length-u32str, Entry, Opens, Binds, entry_text, entry_in, is_opening, is_binding, EntriesAreReadBack, EntriesHaveOneSpelling, IsEntry}
 use Rattle.std.specs.Int.{w32, from_be_bytes}
-use Rattle.std.proofs.lemmas.Bool.{cases_lt, and_parts, eqb-true, le-leb, leb-true}
-use Rattle.std.proofs.lemmas.List.{get_or_past, take_at, drop_at, take-append-drop, drop-drop}
-use Rattle.std.proofs.lemmas.List.Elements.{All-drop, All-get_or, All-take}
 use Rattle.std.proofs.lemmas.Nat.{be_bytes_4, from_be_bytes-to_be_bytes_4}
-use Rattle.std.proofs.lemmas.Option.{same_Some}
-use Rattle.std.proofs.lemmas.Grind.{common_steps}
-use Rattle.lms_sign.specs.Types.{u32str, u32_at}
-use Rattle.lms_sign.proofs.Lists.{length-u32str}
-use Rattle.hss_keys.specs.declared.entry.Entry.{Entry}
-use Rattle.hss_keys.specs.declared.entry.Entry.TheVariants.{Opens, Binds}
-use Rattle.hss_keys.specs.Entries.{entry_text, entry_in, is_opening, is_binding, EntriesAreReadBack, EntriesHaveOneSpelling, IsEntry}
 
 -- the middle of three parts
 part-of : (before part after : List ℕ) (place size : ℕ) → length before ≡ place → length part ≡ size

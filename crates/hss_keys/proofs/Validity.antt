@@ -1,20 +1,9 @@
 -- Signatures of two levels: their parts, the test, and that those that are made are valid.
-use Rattle.std.proofs.Common.{◌≡◌, ◌≤◌, ◌<◌, ◌+◌, ◌-◌, ℕ, Bool, true, false, List, ◌++◌, length, take, drop, refl, sym, ◌∙◌, ap, arith, append_assoc, length-append, length-take, length-drop}
-use Rattle.std.specs.Prelude.{◌&&◌, nat_le, slice_range}
-use Rattle.std.specs.Str.{bytes_eq}
-use Rattle.std.proofs.lemmas.Bool.{and_parts, eqb-true, le-leb, leb-true, lt-leb}
-use Rattle.std.proofs.lemmas.List.{take_at, drop_at, take-append-drop, drop-drop}
-use Rattle.std.proofs.lemmas.Slice.Eq.{bytes_eq-Decides}
+use Rattle.hss_keys.proofs.Words.{◌≡◌, ◌≤◌, ◌<◌, ◌+◌, ◌-◌, ℕ, Bool, true, false, List, ◌++◌, length, take, drop, refl, sym, ◌∙◌, ap, arith, append_assoc, length-append, length-take, length-drop, ◌&&◌, nat_le, slice_range, bytes_eq, and_parts, eqb-true, le-leb, leb-true, lt-leb, take_at, drop_at, take-append-drop, drop-drop, bytes_eq-Decides, is_supported, signature_length, u32str, public_key_of, signature_of, types_of, is_valid, IsValid, length-u32str, HssSeed, top_secret, derived, bottom_secret, bottom_key, hss_key_of, hss_signature_of, is_hss_valid, IsHssValid, ValidHssSignaturesPass, HssSignaturesAreValid}
 use Rattle.sha2.proofs.Facts256.{length-sha256}
 use Rattle.lms_sign.specs.declared.secret.Secret.{Secret}
-use Rattle.lms_sign.specs.Types.{is_supported, signature_length, u32str}
-use Rattle.lms_sign.specs.Tree.{public_key_of, signature_of}
-use Rattle.lms_sign.specs.Valid.{types_of, is_valid, IsValid}
 use Rattle.lms_sign.proofs.Laws.{key-types, signatures_are_valid}
-use Rattle.lms_sign.proofs.Lists.{length-u32str}
 use Rattle.lms_sign.proofs.Nodes.{length-tree_node}
-use Rattle.hss_keys.specs.declared.seed.HssSeed.{HssSeed}
-use Rattle.hss_keys.specs.Keys.{top_secret, derived, bottom_secret, bottom_key, hss_key_of, hss_signature_of, is_hss_valid, IsHssValid, ValidHssSignaturesPass, HssSignaturesAreValid}
 
 -- ---- the types of keys
 

@@ -1,6 +1,4 @@
-use Rattle.std.proofs.Common.{◌≡◌, ◌+◌, ◌∙◌, refl, arith, length}
-use Rattle.lms_sign.proofs.Lists.{length-u32str, put_first, put_on}
-use Rattle.hss_keys.specs.Entries.{entry_text}
+use Rattle.hss_keys.proofs.Words.{◌≡◌, ◌+◌, ◌∙◌, refl, arith, length, length-u32str, put_first, put_on, entry_text}
 use Rattle.hss_keys.proofs.entry.binding_body.Goals as goal
 
 pub returns : goal.returns

@@ -1,8 +1,4 @@
-use Rattle.std.proofs.Common.{◌≡◌, ◌∙◌, ℕ, List, take, min, length, ap, sym, arith, inl, inr}
-use Rattle.std.proofs.lemmas.Bool.{cases_lt}
-use Rattle.std.proofs.lemmas.List.{take_all}
-use Rattle.std.specs.Str.{bytes_eq}
-use Rattle.lms_sign.specs.Types.{u32str}
+use Rattle.hss_keys.proofs.Words.{◌≡◌, ◌∙◌, ℕ, List, take, min, length, ap, sym, arith, inl, inr, cases_lt, take_all, bytes_eq, u32str}
 use Rattle.hss_keys.proofs.fields.begins_with.Goals as goal
 
 -- the first four, of which there may be fewer

@@ -1,9 +1,4 @@
-use Rattle.std.proofs.Common.{◌≡◌, ◌≤◌, true, ℕ, List, Some, sym, ◌∙◌, ap, subst, length}
-use Rattle.plasma_base.specs.Causes.{faults_after}
-use Rattle.node_journal.specs.Notes.{Added, AddFailed}
-use Rattle.node_journal.proofs.Keeping.{notes_over, goes_through, meets_fault, moments, settled_now, went, met}
-use Rattle.hss_keys.specs.Entries.{entry_in}
-use Rattle.hss_keys.specs.Form.{may_follow}
+use Rattle.hss_keys.proofs.Words.{◌≡◌, ◌≤◌, true, ℕ, List, Some, sym, ◌∙◌, ap, refl, subst, length, faults_after, Added, AddFailed, notes_over, goes_through, meets_fault, moments, settled_now, went, met, entry_in, may_follow}
 use Rattle.hss_keys.proofs.Spelling.{entries_are_read_back, text-short}
 use Rattle.hss_keys.proofs.Counts.{follows_from}
 use Rattle.hss_keys.proofs.Adding.{append_kept, bodies-left, bytes-left, fault_kept, fits, spare}
@@ -13,8 +8,8 @@ pub push-requires-clause-reads : goal.push-requires-clause-reads
 push-requires-clause-reads g c = ap entry_in c.body-body.ensures
     ∙ entries_are_read_back c.args.entry.now c.requires.entry
 
-pub returns-then-is_err-clause-did : goal.returns-then-is_err-clause-did
-returns-then-is_err-clause-did g c =
+pub returns-then-is_err : goal.returns-then-is_err
+returns-then-is_err g c =
     let told = g.D.Disk.told in
     let plan = g.D.Disk.plan in
     let journal = c.args.journal.now in
@@ -31,56 +26,26 @@ returns-then-is_err-clause-did g c =
     let append = rw c.as_slice.ensures.value at c.append.ensures in
     let failed = meets_fault told plan c.requires.open enough room c.append.result new append.appends
     (sym c.is_err.ensures.value ∙ c.if-is_err.true) in
-    subst (λ (b : List ℕ). AddFailed told plan g.D.Disk.faults b (notes_over journal kept.records)
-    (notes_over new kept.records)) c.body-body.ensures
-    (met told plan g.D.Disk.faults body journal new kept.records c.requires.kept.gate
-    c.requires.kept.settled append.any_moment failed.1
-    (append.cause ∙ ap (λ b. faults_after (g.D.Disk.faults journal.disk) b) failed.0))
+    record {
+      did = subst (λ (b : List ℕ). AddFailed told plan g.D.Disk.faults b (notes_over journal kept.records)
+          (notes_over new kept.records)) c.body-body.ensures
+          (met told plan g.D.Disk.faults body journal new kept.records c.requires.kept.gate
+          c.requires.kept.settled append.any_moment failed.1
+          (append.cause ∙ ap (λ b. faults_after (g.D.Disk.faults journal.disk) b) failed.0));
+      kept = fault_kept told body c.requires.open c.requires.kept c.requires.room follows short failed.1
+          (moments told plan g.D.Disk.faults body journal new kept.records c.requires.kept.gate
+          c.requires.kept.settled append.any_moment c.requires.open);
+      seed = refl;
+      records = tt;
+      spare = tt;
+      bodies = tt;
+      bytes = tt;
+      closed = failed.1.is_closed;
+      fault = refl;
+    }
 
-pub returns-then-is_err-clause-kept : goal.returns-then-is_err-clause-kept
-returns-then-is_err-clause-kept g c =
-    let told = g.D.Disk.told in
-    let plan = g.D.Disk.plan in
-    let journal = c.args.journal.now in
-    let kept = c.args.records.now in
-    let new = c.append.new.self in
-    let body = c.body-body.result in
-    let read : entry_in body ≡ Some c.args.entry.now = ap entry_in c.body-body.ensures
-    ∙ entries_are_read_back c.args.entry.now c.requires.entry in
-    let follows : may_follow kept.seed kept.records body ≡ true =
-    follows_from kept.seed kept.records body c.args.entry.now read ∙ c.requires.follows in
-    let short : length body ≤ 137 = text-short c.args.entry.now body read in
-    let room = spare told body c.requires.open c.requires.kept c.requires.room follows short in
-    let enough = fits told body c.requires.open c.requires.kept c.requires.room follows short in
-    let append = rw c.as_slice.ensures.value at c.append.ensures in
-    let failed = meets_fault told plan c.requires.open enough room c.append.result new append.appends
-    (sym c.is_err.ensures.value ∙ c.if-is_err.true) in
-    fault_kept told body c.requires.open c.requires.kept c.requires.room follows short failed.1
-    (moments told plan g.D.Disk.faults body journal new kept.records c.requires.kept.gate
-    c.requires.kept.settled append.any_moment c.requires.open)
-
-pub returns-then-is_err-clause-closed : goal.returns-then-is_err-clause-closed
-returns-then-is_err-clause-closed g c =
-    let told = g.D.Disk.told in
-    let plan = g.D.Disk.plan in
-    let journal = c.args.journal.now in
-    let kept = c.args.records.now in
-    let new = c.append.new.self in
-    let body = c.body-body.result in
-    let read : entry_in body ≡ Some c.args.entry.now = ap entry_in c.body-body.ensures
-    ∙ entries_are_read_back c.args.entry.now c.requires.entry in
-    let follows : may_follow kept.seed kept.records body ≡ true =
-    follows_from kept.seed kept.records body c.args.entry.now read ∙ c.requires.follows in
-    let short : length body ≤ 137 = text-short c.args.entry.now body read in
-    let room = spare told body c.requires.open c.requires.kept c.requires.room follows short in
-    let enough = fits told body c.requires.open c.requires.kept c.requires.room follows short in
-    let append = rw c.as_slice.ensures.value at c.append.ensures in
-    let failed = meets_fault told plan c.requires.open enough room c.append.result new append.appends
-    (sym c.is_err.ensures.value ∙ c.if-is_err.true) in
-    failed.1.is_closed
-
-pub returns-clause-did : goal.returns-clause-did
-returns-clause-did g c =
+pub returns : goal.returns
+returns g c =
     let told = g.D.Disk.told in
     let plan = g.D.Disk.plan in
     let journal = c.args.journal.now in
@@ -97,72 +62,22 @@ returns-clause-did g c =
     let append = rw c.as_slice.ensures.value at c.append.ensures in
     let through = goes_through told plan c.requires.open enough room c.append.result new append.appends
     (sym c.is_err.ensures.value ∙ c.if-is_err.false) in
-    subst (λ (b : List ℕ). Added told plan g.D.Disk.faults b (notes_over journal kept.records)
-    (notes_over new c.push.new.self.records)) c.body-body.ensures
-    (went told plan g.D.Disk.faults body journal new kept.records c.requires.kept.gate
-    c.requires.kept.settled append.any_moment through.1
-    (rw through.0 at append.kept) c.push.ensures.records (rw through.0 at append.cause))
-
-pub returns-clause-kept : goal.returns-clause-kept
-returns-clause-kept g c =
-    let told = g.D.Disk.told in
-    let plan = g.D.Disk.plan in
-    let journal = c.args.journal.now in
-    let kept = c.args.records.now in
-    let new = c.append.new.self in
-    let body = c.body-body.result in
-    let read : entry_in body ≡ Some c.args.entry.now = ap entry_in c.body-body.ensures
-    ∙ entries_are_read_back c.args.entry.now c.requires.entry in
-    let follows : may_follow kept.seed kept.records body ≡ true =
-    follows_from kept.seed kept.records body c.args.entry.now read ∙ c.requires.follows in
-    let short : length body ≤ 137 = text-short c.args.entry.now body read in
-    let room = spare told body c.requires.open c.requires.kept c.requires.room follows short in
-    let enough = fits told body c.requires.open c.requires.kept c.requires.room follows short in
-    let append = rw c.as_slice.ensures.value at c.append.ensures in
-    let through = goes_through told plan c.requires.open enough room c.append.result new append.appends
-    (sym c.is_err.ensures.value ∙ c.if-is_err.false) in
-    append_kept told body c.requires.open c.requires.kept c.requires.room follows short through.1
-    c.push.ensures.seed c.push.ensures.records
-    (settled_now told plan g.D.Disk.faults body journal new kept.records c.requires.kept.gate
-    c.requires.kept.settled append.any_moment through.1
-    (rw through.0 at append.kept) c.push.ensures.records)
-
-pub returns-clause-bodies : goal.returns-clause-bodies
-returns-clause-bodies g c =
-    let told = g.D.Disk.told in
-    let plan = g.D.Disk.plan in
-    let journal = c.args.journal.now in
-    let kept = c.args.records.now in
-    let new = c.append.new.self in
-    let body = c.body-body.result in
-    let read : entry_in body ≡ Some c.args.entry.now = ap entry_in c.body-body.ensures
-    ∙ entries_are_read_back c.args.entry.now c.requires.entry in
-    let follows : may_follow kept.seed kept.records body ≡ true =
-    follows_from kept.seed kept.records body c.args.entry.now read ∙ c.requires.follows in
-    let short : length body ≤ 137 = text-short c.args.entry.now body read in
-    let room = spare told body c.requires.open c.requires.kept c.requires.room follows short in
-    let enough = fits told body c.requires.open c.requires.kept c.requires.room follows short in
-    let append = rw c.as_slice.ensures.value at c.append.ensures in
-    let through = goes_through told plan c.requires.open enough room c.append.result new append.appends
-    (sym c.is_err.ensures.value ∙ c.if-is_err.false) in
-    bodies-left told body c.requires.open c.requires.kept c.requires.room follows short through.1
-
-pub returns-clause-bytes : goal.returns-clause-bytes
-returns-clause-bytes g c =
-    let told = g.D.Disk.told in
-    let plan = g.D.Disk.plan in
-    let journal = c.args.journal.now in
-    let kept = c.args.records.now in
-    let new = c.append.new.self in
-    let body = c.body-body.result in
-    let read : entry_in body ≡ Some c.args.entry.now = ap entry_in c.body-body.ensures
-    ∙ entries_are_read_back c.args.entry.now c.requires.entry in
-    let follows : may_follow kept.seed kept.records body ≡ true =
-    follows_from kept.seed kept.records body c.args.entry.now read ∙ c.requires.follows in
-    let short : length body ≤ 137 = text-short c.args.entry.now body read in
-    let room = spare told body c.requires.open c.requires.kept c.requires.room follows short in
-    let enough = fits told body c.requires.open c.requires.kept c.requires.room follows short in
-    let append = rw c.as_slice.ensures.value at c.append.ensures in
-    let through = goes_through told plan c.requires.open enough room c.append.result new append.appends
-    (sym c.is_err.ensures.value ∙ c.if-is_err.false) in
-    bytes-left told body c.requires.open c.requires.kept c.requires.room follows short through.1
+    record {
+      did = subst (λ (b : List ℕ). Added told plan g.D.Disk.faults b (notes_over journal kept.records)
+          (notes_over new c.push.new.self.records)) c.body-body.ensures
+          (went told plan g.D.Disk.faults body journal new kept.records c.requires.kept.gate
+          c.requires.kept.settled append.any_moment through.1
+          (rw through.0 at append.kept) c.push.ensures.records (rw through.0 at append.cause));
+      kept = append_kept told body c.requires.open c.requires.kept c.requires.room follows short through.1
+          c.push.ensures.seed c.push.ensures.records
+          (settled_now told plan g.D.Disk.faults body journal new kept.records c.requires.kept.gate
+          c.requires.kept.settled append.any_moment through.1
+          (rw through.0 at append.kept) c.push.ensures.records);
+      seed = c.push.ensures.seed;
+      records = cc;
+      spare = c.push.ensures.room;
+      bodies = bodies-left told body c.requires.open c.requires.kept c.requires.room follows short through.1;
+      bytes = bytes-left told body c.requires.open c.requires.kept c.requires.room follows short through.1;
+      closed = tt;
+      fault = tt;
+    }

@@ -1,8 +1,4 @@
-use Rattle.std.proofs.Common.{◌≡◌, ◌∷◌, ◌++◌, [], Some, ◌∙◌, ap, arith}
-use Rattle.hss_keys.specs.declared.entry.Entry.{Entry}
-use Rattle.hss_keys.specs.declared.entry.Entry.TheVariants.{Binds}
-use Rattle.hss_keys.specs.Entries.{entries_of}
-use Rattle.hss_keys.specs.Levels.{leaves_left}
+use Rattle.hss_keys.proofs.Words.{◌≡◌, ◌∷◌, ◌++◌, [], Some, ◌∙◌, ap, arith, Entry, Binds, entries_of, leaves_left}
 use Rattle.hss_keys.proofs.Counts.{entries-more, left-less, next_leaf}
 use Rattle.hss_keys.proofs.reading.add.Goals as goal
 
@@ -15,8 +11,7 @@ returns-in-Binds-clause-room c =
     let q = c.in-Binds.leaf in
     let message = c.in-Binds.message in
     let may = rw c.in-Binds.is at c.requires.follows in
-    let more = entries-more kept.records c.args.body (Binds j q message)
-    (c.requires.reads ∙ ap (λ (e : Entry). Some e) c.in-Binds.is) in
+    let more = entries-more _ _ _ (c.requires.reads ∙ ap (λ (e : Entry). Some e) c.in-Binds.is) in
     let less = left-less kept.seed entries j q message (next_leaf kept.seed entries j q message may) in
     let same : leaves_left new.seed (entries_of new.records)
     ≡ leaves_left kept.seed (entries ++ Binds j q message ∷ []) =

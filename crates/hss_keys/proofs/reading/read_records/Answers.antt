@@ -1,8 +1,4 @@
-use Rattle.std.proofs.Common.{◌≡◌, true, false, ◌<◌, ◌+◌, ◌∙◌, ℕ, List, suc, [], ◌∷◌, ◌++◌, length, take, get_or, refl, sym, ap, arith}
-use Rattle.std.proofs.lemmas.List.{take_all, get_or_default}
-use Rattle.std.proofs.Math.Seq.{take-suc}
-use Rattle.gate_journal.specs.Image.{spelled}
-use Rattle.hss_keys.specs.Form.{may_follow}
+use Rattle.hss_keys.proofs.Words.{◌≡◌, true, false, ◌<◌, ◌+◌, ◌∙◌, ℕ, List, suc, [], ◌∷◌, ◌++◌, length, take, get_or, refl, sym, ap, arith, take_all, get_or_default, take-suc, spelled, may_follow}
 use Rattle.hss_keys.proofs.Form.{none_are, one_more, refused_at, spelled-count}
 use Rattle.hss_keys.proofs.reading.read_records.Goals as goal
 

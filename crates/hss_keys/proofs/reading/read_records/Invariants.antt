@@ -1,8 +1,4 @@
-use Rattle.std.proofs.Common.{◌≡◌, ◌≤◌, Ok, take, length}
-use Rattle.gate_journal.specs.Image.{spelled}
-use Rattle.hss_keys.specs.Entries.{entries_of}
-use Rattle.hss_keys.specs.Form.{level_records}
-use Rattle.hss_keys.specs.Levels.{leaves_left}
+use Rattle.hss_keys.proofs.Words.{◌≡◌, ◌≤◌, Ok, take, length, spelled, entries_of, level_records, leaves_left}
 use Rattle.hss_keys.proofs.reading.read_records.Given as goal
 
 abbrev pub invariant-loop-body : goal.invariant-loop-body

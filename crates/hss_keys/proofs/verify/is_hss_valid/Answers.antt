@@ -1,9 +1,5 @@
-use Rattle.std.proofs.Common.{◌≡◌, ◌+◌, ◌-◌, ℕ, List, length, take, drop, refl, sym, ◌∙◌, ap, arith, length-drop}
-use Rattle.std.proofs.lemmas.List.{take_all}
-use Rattle.std.specs.Prelude.{◌&&◌, slice_range}
+use Rattle.hss_keys.proofs.Words.{◌≡◌, ◌+◌, ◌-◌, ℕ, List, length, take, drop, refl, sym, ◌∙◌, ap, arith, length-drop, take_all, ◌&&◌, slice_range, signature_length, u32_at, is_valid, types_of}
 use Rattle.lms_sign.specs.declared.types.LmsTypes.{LmsTypes}
-use Rattle.lms_sign.specs.Types.{signature_length, u32_at}
-use Rattle.lms_sign.specs.Valid.{is_valid, types_of}
 use Rattle.hss_keys.proofs.Validity.{other_public, other_signature, short_signature, tested}
 use Rattle.hss_keys.proofs.verify.is_hss_valid.Goals as goal
 
@@ -25,20 +21,18 @@ place-is public top lms ots count top_is lms_is ots_is count_is =
     ∙ ap (λ k. signature_length (types_of k)) top_is)
 
 pub returns-then-not-begins_with : goal.returns-then-not-begins_with
-returns-then-not-begins_with c = other_public c.args.public.now c.args.message.now c.args.signature.now
-    (sym c.begins_with.ensures ∙ c.if-not-begins_with.true)
+returns-then-not-begins_with c = other_public _ _ _ (sym c.begins_with.ensures ∙ c.if-not-begins_with.true)
 
 pub returns-then-not-begins_with-2 : goal.returns-then-not-begins_with-2
-returns-then-not-begins_with-2 c = other_signature c.args.public.now c.args.message.now c.args.signature.now
-    (sym c.begins_with-2.ensures ∙ c.if-not-begins_with-2.true)
+returns-then-not-begins_with-2 c = other_signature _ _ _ (sym c.begins_with-2.ensures ∙ c.if-not-begins_with-2.true)
 
 pub returns-then-signature-place : goal.returns-then-signature-place
 returns-then-signature-place c =
     let place = 4 + c.signature_len-place.result in
     let top = take 56 (drop 4 c.args.public.now) in
     let whole : top ≡ drop 4 c.args.public.now = top-whole c.args.public.now c.told-public in
-    let is = place-is c.args.public.now top c.u32_at.result c.u32_at-2.result c.signature_len-place.result whole
-    c.u32_at.ensures c.u32_at-2.ensures c.signature_len-place.ensures.value in
+    let is = place-is c.args.public.now _ _ _ _ whole c.u32_at.ensures c.u32_at-2.ensures
+    c.signature_len-place.ensures.value in
     short_signature c.args.public.now c.args.message.now c.args.signature.now place is c.if-signature-place.true
 
 pub returns-then-is_valid : goal.returns-then-is_valid
@@ -52,8 +46,7 @@ returns-then-is_valid c =
     let bottom = slice_range signature place (place + 56) in
     let rest = take (length signature - (place + 56)) (drop (place + 56) signature) in
     let rest_is : rest ≡ drop (place + 56) signature = rest-whole signature (place + 56) in
-    let is = place-is public top c.u32_at.result c.u32_at-2.result c.signature_len-place.result whole
-    c.u32_at.ensures c.u32_at-2.ensures c.signature_len-place.ensures.value in
+    let is = place-is public _ _ _ _ whole c.u32_at.ensures c.u32_at-2.ensures c.signature_len-place.ensures.value in
     let all = tested public message signature place top bottom (slice_range signature 4 place) rest
     c.is_valid.result is whole refl refl rest_is (sym c.begins_with.ensures ∙ c.if-not-begins_with.false)
     (sym c.begins_with-2.ensures ∙ c.if-not-begins_with-2.false) c.if-signature-place.false c.is_valid.ensures in
@@ -69,8 +62,7 @@ returns-else-is_valid c =
     let signature = c.args.signature.now in
     let bottom = slice_range signature place (place + 56) in
     let rest = drop (place + 56) signature in
-    let is = place-is public top c.u32_at.result c.u32_at-2.result c.signature_len-place.result whole
-    c.u32_at.ensures c.u32_at-2.ensures c.signature_len-place.ensures.value in
+    let is = place-is public _ _ _ _ whole c.u32_at.ensures c.u32_at-2.ensures c.signature_len-place.ensures.value in
     let all = tested public message signature place top bottom (slice_range signature 4 place) rest
     c.is_valid.result is whole refl refl refl (sym c.begins_with.ensures ∙ c.if-not-begins_with.false)
     (sym c.begins_with-2.ensures ∙ c.if-not-begins_with-2.false) c.if-signature-place.false c.is_valid.ensures in

@@ -1,6 +1,4 @@
-use Rattle.std.proofs.Common.{◌≡◌, false, refl, sym}
-use Rattle.lms_sign.specs.Types.{is_supported}
-use Rattle.lms_sign.specs.Valid.{is_valid, types_of}
+use Rattle.hss_keys.proofs.Words.{◌≡◌, false, refl, sym, is_supported, is_valid, types_of}
 use Rattle.hss_keys.proofs.verify.is_valid.Goals as goal
 
 pub returns-in-Err : goal.returns-in-Err

@@ -1,10 +1,4 @@
-use Rattle.std.proofs.Common.{◌≡◌, ◌+◌, ◌∙◌, ℕ, List, ◌++◌, length, take, drop, refl, sym, ap, arith}
-use Rattle.lms_sign.specs.Types.{leaf_count, signature_length}
-use Rattle.lms_sign.specs.Tree.{public_key_of, signature_of}
-use Rattle.lms_sign.specs.Valid.{types_of}
-use Rattle.lms_sign.proofs.Lists.{length-u32str, put_first, put_on, all_of_front}
-use Rattle.hss_keys.specs.Keys.{hss_signature_of}
-use Rattle.hss_keys.specs.Levels.{HssBoundState}
+use Rattle.hss_keys.proofs.Words.{◌≡◌, ◌+◌, ◌∙◌, ℕ, List, ◌++◌, length, take, drop, refl, sym, ap, arith, leaf_count, signature_length, public_key_of, signature_of, types_of, length-u32str, put_first, put_on, all_of_front, hss_signature_of, HssBoundState}
 use Rattle.hss_keys.proofs.Validity.{top-part, valid-from}
 use Rattle.hss_keys.proofs.bound.HssBound.sign.Goals as goal
 

@@ -1,16 +1,4 @@
-use Rattle.std.proofs.Common.{◌≡◌, ◌<◌, ◌≤◌, true, false, ℕ, List, Option, None, Some, Result, Ok, Err, refl, sym, ◌∙◌, ap, subst, arith}
-use Rattle.lms_sign.specs.Types.{leaf_count}
-use Rattle.lms_sign.specs.Tree.{public_key_of}
-use Rattle.node_journal.specs.Effect.{Effect}
-use Rattle.node_journal.specs.Notes.{Did, stopped_by}
-use Rattle.node_journal.specs.declared.stop.Stop.{Stop}
-use Rattle.node_journal.specs.declared.stop.Stop.TheVariants.{DeviceFault as StopFault}
-use Rattle.hss_keys.specs.declared.seed.HssSeed.{HssSeed}
-use Rattle.hss_keys.specs.declared.entry.Entry.TheVariants.{Opens}
-use Rattle.hss_keys.specs.declared.refusal.LevelRefusal.{LevelRefusal}
-use Rattle.hss_keys.specs.Keys.{bottom_key}
-use Rattle.hss_keys.specs.Entries.{entries_of, entry_text, opened_count}
-use Rattle.hss_keys.specs.Levels.{advance_effect, has_leaf}
+use Rattle.hss_keys.proofs.Words.{◌≡◌, ◌<◌, ◌≤◌, true, false, ℕ, List, Option, None, Some, Result, Ok, Err, refl, sym, ◌∙◌, ap, subst, arith, leaf_count, public_key_of, Effect, Did, stopped_by, Stop, StopFault, HssSeed, Opens, LevelRefusal, bottom_key, entries_of, entry_text, opened_count, advance_effect, has_leaf}
 use Rattle.hss_keys.proofs.Effects.{advance-goes, advance-open, advance-spent}
 use Rattle.hss_keys.proofs.levels.Levels.advance.Goals as goal
 

@@ -1,6 +1,4 @@
-use Rattle.std.proofs.Common.{◌≡◌, Some, sym, subst}
-use Rattle.hss_keys.specs.Entries.{entries_of, message_at}
-use Rattle.hss_keys.specs.Levels.{LevelsState}
+use Rattle.hss_keys.proofs.Words.{◌≡◌, Some, sym, subst, entries_of, message_at, LevelsState}
 use Rattle.hss_keys.proofs.Bounds.{bound-kept}
 use Rattle.hss_keys.proofs.levels.Levels.again.Goals as goal
 
@@ -10,5 +8,4 @@ returns-clause-kept g c =
     let message = c.in_ok-message.message in
     let value = subst (λ (s : LevelsState _). Some message ≡ message_at (entries_of s.notes.records) c.args.j c.args.q)
     c.self.view_is c.in_ok-message.ensures.value in
-    bound-kept old.seed old.notes.records c.args.j c.args.q message c.bound.result c.bound.ensures.value
-    c.bound.ensures.key (sym value)
+    bound-kept _ _ _ _ _ _ c.bound.ensures.value c.bound.ensures.key (sym value)

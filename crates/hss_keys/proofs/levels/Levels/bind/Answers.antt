@@ -1,14 +1,4 @@
-use Rattle.std.proofs.Common.{◌≡◌, ◌+◌, ◌-◌, ℕ, true, false, List, Option, Some, None, Result, Ok, refl, sym, ◌∙◌, ap, subst, arith}
-use Rattle.lms_sign.proofs.Sizes.{leaf_count-le}
-use Rattle.node_journal.specs.Effect.{Effect}
-use Rattle.node_journal.specs.Notes.{Did}
-use Rattle.node_journal.specs.declared.stop.Stop.{Stop}
-use Rattle.node_journal.specs.declared.stop.Stop.TheVariants.{DeviceFault as StopFault}
-use Rattle.hss_keys.specs.declared.entry.Entry.{Entry}
-use Rattle.hss_keys.specs.declared.entry.Entry.TheVariants.{Binds}
-use Rattle.hss_keys.specs.declared.refusal.LevelRefusal.{LevelRefusal}
-use Rattle.hss_keys.specs.Entries.{entries_of, entry_text, message_at, opened_count, used_in, IsEntry}
-use Rattle.hss_keys.specs.Levels.{bind_effect, bound_of, has_leaf, HssBoundState}
+use Rattle.hss_keys.proofs.Words.{◌≡◌, ◌+◌, ◌-◌, ℕ, true, false, List, Option, Some, None, Result, Ok, refl, sym, ◌∙◌, ap, subst, arith, leaf_count-le, Effect, Did, Stop, StopFault, Entry, Binds, LevelRefusal, entries_of, entry_text, message_at, opened_count, used_in, IsEntry, bind_effect, bound_of, has_leaf, HssBoundState}
 use Rattle.hss_keys.proofs.Bounds.{bound-kept, entries-bound, message-kept}
 use Rattle.hss_keys.proofs.Counts.{next-has, opened-same}
 use Rattle.hss_keys.proofs.Effects.{bind-goes, bind-spent}

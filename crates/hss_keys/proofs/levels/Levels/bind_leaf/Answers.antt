@@ -1,9 +1,4 @@
-use Rattle.std.proofs.Common.{◌≡◌, true, false, ℕ, List, Some, sym, ◌∙◌, ap, subst, arith}
-use Rattle.node_journal.specs.Notes.{Did, stopped_by}
-use Rattle.hss_keys.specs.declared.entry.Entry.TheVariants.{Binds}
-use Rattle.hss_keys.specs.Entries.{entries_of, entry_text, IsEntry}
-use Rattle.hss_keys.specs.Form.{entry_may_follow}
-use Rattle.hss_keys.specs.Levels.{LevelsState}
+use Rattle.hss_keys.proofs.Words.{◌≡◌, true, false, ℕ, List, Some, sym, ◌∙◌, ap, subst, arith, Did, stopped_by, Binds, entries_of, entry_text, IsEntry, entry_may_follow, LevelsState}
 use Rattle.hss_keys.proofs.Sounding.{message_sound, one_room}
 use Rattle.hss_keys.proofs.levels.Levels.bind_leaf.Goals as goal
 

@@ -1,8 +1,4 @@
-use Rattle.std.proofs.Common.{◌≡◌, ◌<◌, ◌∙◌, ℕ, List, Some, ap, sym, subst, arith, drop}
-use Rattle.lms_sign.specs.Types.{leaf_count}
-use Rattle.lms_sign.specs.Valid.{types_of}
-use Rattle.hss_keys.specs.Entries.{entries_of, key_at, opened_count}
-use Rattle.hss_keys.specs.Levels.{LevelsState}
+use Rattle.hss_keys.proofs.Words.{◌≡◌, ◌<◌, ◌∙◌, ℕ, List, Some, ap, sym, subst, arith, drop, leaf_count, types_of, entries_of, key_at, opened_count, LevelsState}
 use Rattle.hss_keys.proofs.Validity.{bottom-types, top-types}
 use Rattle.hss_keys.proofs.Bounds.{bottom-kept}
 use Rattle.hss_keys.proofs.Form.{are_counted}
@@ -34,5 +30,4 @@ returns-clause-key g c =
     let within = subst (λ (s : LevelsState _). c.args.top_leaf < opened_count (entries_of s.notes.records))
     (sym c.self.view_is) c.requires.top in
     subst (λ (s : LevelsState _). key_at (entries_of s.notes.records) c.args.top_leaf ≡ Some c.key.result) c.self.view_is
-    (bottom-kept inside.records.seed inside.records.records c.args.top_leaf c.key.result c.is_whole.ensures.are within
-    c.key.ensures)
+    (bottom-kept _ _ _ _ c.is_whole.ensures.are within c.key.ensures)

@@ -1,6 +1,4 @@
-use Rattle.std.proofs.Common.{◌∙◌, ap}
-use Rattle.hss_keys.specs.Entries.{entries_of}
-use Rattle.hss_keys.specs.Levels.{LevelsState, has_leaf}
+use Rattle.hss_keys.proofs.Words.{◌∙◌, ap, entries_of, LevelsState, has_leaf}
 use Rattle.hss_keys.proofs.levels.Levels.has_leaf.Goals as goal
 
 pub returns : goal.returns

@@ -1,5 +1,4 @@
-use Rattle.std.proofs.Common.{◌≡◌, Ok, ◌∙◌, ap, sym}
-use Rattle.hss_keys.specs.Form.{level_records}
+use Rattle.hss_keys.proofs.Words.{◌≡◌, Ok, ◌∙◌, ap, sym, level_records}
 use Rattle.hss_keys.proofs.Opening.{opened_level, opened_sound, refused_by_journal}
 use Rattle.hss_keys.proofs.levels.Levels.open.Goals as goal
 

@@ -1,12 +1,4 @@
-use Rattle.std.proofs.Common.{◌≡◌, ◌+◌, true, Some, sym, ◌∙◌, ap, subst, arith}
-use Rattle.lms_sign.specs.Types.{leaf_count}
-use Rattle.gate_journal.specs.Journal.{JournalState}
-use Rattle.node_journal.specs.Notes.{Did, stopped_by}
-use Rattle.hss_keys.specs.Entries.{entries_of, entry_text}
-use Rattle.hss_keys.specs.Form.{entry_may_follow}
-use Rattle.hss_keys.specs.Levels.{LevelsState}
-use Rattle.hss_keys.specs.Sound.{IsSound}
-use Rattle.node_journal.proofs.Keeping.{notes_over}
+use Rattle.hss_keys.proofs.Words.{◌≡◌, ◌+◌, true, Some, sym, ◌∙◌, ap, subst, arith, leaf_count, JournalState, Did, stopped_by, entries_of, entry_text, entry_may_follow, LevelsState, IsSound, notes_over}
 use Rattle.hss_keys.proofs.Adding.{did_reserved, kept_reserved, kept_same, reserved_room}
 use Rattle.hss_keys.proofs.Sounding.{level_sound, same_sound}
 use Rattle.hss_keys.proofs.levels.Levels.open_level.Goals as goal
@@ -70,8 +62,6 @@ returns-clause-did g c =
       closed = c.append.new.journal.closed;
       records = c.append.new.records.records;
     })) c.self.view_is
-    (did_reserved d.told d.plan d.faults (entry_text c.args.entry.now)
-    (notes_over c.self.inside.journal c.self.inside.records.records)
-    (notes_over c.reserve.new.self c.reserve_level.new.self.records)
-    (notes_over c.append.new.journal c.append.new.records.records) c.append.result append.fault c.reserve.ensures.still
-    (ap (λ (j : JournalState _). j.closed) c.in_ok-reserve.ensures.room) c.reserve_level.ensures.records append.did)
+    (did_reserved d.told d.plan d.faults _ (notes_over c.self.inside.journal c.self.inside.records.records) _ _ _
+    append.fault c.reserve.ensures.still (ap (λ (j : JournalState _). j.closed) c.in_ok-reserve.ensures.room)
+    c.reserve_level.ensures.records append.did)

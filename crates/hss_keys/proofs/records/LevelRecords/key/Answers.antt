@@ -1,8 +1,4 @@
-use Rattle.std.proofs.Common.{◌<◌, ◌∙◌, ℕ, List, [], get_or, length, ap, sym, subst, arith}
-use Rattle.std.proofs.lemmas.List.{get_or_default}
-use Rattle.hss_keys.specs.Keys.{bottom_key}
-use Rattle.hss_keys.specs.Entries.{entries_of, opened_count}
-use Rattle.hss_keys.specs.Sound.{LevelRecordsState}
+use Rattle.hss_keys.proofs.Words.{◌<◌, ◌∙◌, ℕ, List, [], get_or, length, ap, sym, subst, arith, get_or_default, bottom_key, entries_of, opened_count, LevelRecordsState}
 use Rattle.hss_keys.proofs.Form.{are_counted}
 use Rattle.hss_keys.proofs.records.LevelRecords.key.Goals as goal
 

@@ -1,9 +1,4 @@
-use Rattle.std.proofs.Common.{◌≡◌, ◌<◌, ◌≤◌, ◌-◌, ◌∙◌, ℕ, suc, List, [], Some, refl, sym, ap, arith, length, get_or}
-use Rattle.std.specs.List.{slice_get}
-use Rattle.std.proofs.lemmas.List.{get_or_default}
-use Rattle.lms_sign.specs.Types.{leaf_count}
-use Rattle.hss_keys.specs.Entries.{entries_of, messages_under, opened_count}
-use Rattle.hss_keys.specs.Sound.{LevelRecordsState}
+use Rattle.hss_keys.proofs.Words.{◌≡◌, ◌<◌, ◌≤◌, ◌-◌, ◌∙◌, ℕ, suc, List, [], Some, refl, sym, ap, arith, length, get_or, slice_get, get_or_default, leaf_count, entries_of, messages_under, opened_count, LevelRecordsState}
 use Rattle.hss_keys.proofs.Counts.{message-here, message-later, message-none, message-other, message-within}
 use Rattle.hss_keys.proofs.Form.{are_counted}
 use Rattle.hss_keys.proofs.records.LevelRecords.message.Goals as goal
@@ -18,8 +13,7 @@ loop-body-preserved-in-None c =
     let within : index < length items = c.loop-body-test.true in
     let is_body : c.as_slice.result.now ≡ get_or items index [] = c.as_slice.ensures.value ∙ c.body-item.is
     ∙ get_or_default items index c.body-item.result [] within in
-    message-other c.args.top_leaf items index c.loop-body.before c.args.leaf c.as_slice.result.now within is_body
-    c.in-None.ensures c.loop-body.invariant
+    message-other _ _ _ _ _ _ within is_body c.in-None.ensures c.loop-body.invariant
 
 pub loop-body-preserved : goal.loop-body-preserved
 loop-body-preserved c =
@@ -30,8 +24,7 @@ loop-body-preserved c =
     let is_body : c.as_slice.result.now ≡ get_or items index [] = c.as_slice.ensures.value ∙ c.body-item.is
     ∙ get_or_default items index c.body-item.result [] within in
     let more : before ≡ suc (before - 1) = omega (arith, c.if-before-eq0.false) in
-    message-later c.args.top_leaf items index before (before - 1) c.args.leaf c.as_slice.result.now c.in-Some.message
-    within is_body c.in-Some.ensures more c.loop-body.invariant
+    message-later _ _ _ _ _ _ _ _ within is_body c.in-Some.ensures more c.loop-body.invariant
 
 pub returns-then-before-eq0-clause-value : goal.returns-then-before-eq0-clause-value
 returns-then-before-eq0-clause-value c =
@@ -40,8 +33,7 @@ returns-then-before-eq0-clause-value c =
     let within : index < length items = c.loop-body-test.true in
     let is_body : c.as_slice.result.now ≡ get_or items index [] = c.as_slice.ensures.value ∙ c.body-item.is
     ∙ get_or_default items index c.body-item.result [] within in
-    message-here c.args.top_leaf items index c.loop-body.before c.args.leaf c.as_slice.result.now c.in-Some.message
-    within is_body c.in-Some.ensures c.if-before-eq0.true c.loop-body.invariant
+    message-here _ _ _ _ _ _ _ within is_body c.in-Some.ensures c.if-before-eq0.true c.loop-body.invariant
     ∙ ap (λ (l : List (List ℕ)). slice_get (messages_under c.args.top_leaf (entries_of l)) c.args.leaf)
     (c.deref-body-items.ensures.value ∙ ap (λ (s : LevelRecordsState). s.records) c.self.view_is)
 
@@ -53,8 +45,7 @@ returns-then-before-eq0-clause-top c =
     (entries_of c.self.inside.records.items)) c.args.leaf = returns-then-before-eq0-clause-value c
     ∙ sym (ap (λ (s : LevelRecordsState). slice_get (messages_under c.args.top_leaf (entries_of s.records)) c.args.leaf)
     c.self.view_is) in
-    let within = message-within c.self.inside.seed (entries_of c.self.inside.records.items) c.args.top_leaf c.args.leaf
-    c.in-Some.message counted here in
+    let within = message-within c.self.inside.seed (entries_of c.self.inside.records.items) _ _ _ counted here in
     omega (arith, within.0, ap (λ (s : LevelRecordsState). opened_count (entries_of s.records)) c.self.view_is)
 
 pub returns-then-before-eq0-clause-below : goal.returns-then-before-eq0-clause-below
@@ -64,8 +55,7 @@ returns-then-before-eq0-clause-below c =
     (entries_of c.self.inside.records.items)) c.args.leaf = returns-then-before-eq0-clause-value c
     ∙ sym (ap (λ (s : LevelRecordsState). slice_get (messages_under c.args.top_leaf (entries_of s.records)) c.args.leaf)
     c.self.view_is) in
-    let within = message-within c.self.inside.seed (entries_of c.self.inside.records.items) c.args.top_leaf c.args.leaf
-    c.in-Some.message counted here in
+    let within = message-within c.self.inside.seed (entries_of c.self.inside.records.items) _ _ _ counted here in
     omega (arith, within.1, ap (λ (s : LevelRecordsState). leaf_count s.seed.bottom) c.self.view_is)
 
 pub returns-clause-value : goal.returns-clause-value

@@ -1,6 +1,4 @@
-use Rattle.std.proofs.Common.{◌≡◌, drop}
-use Rattle.std.specs.List.{slice_get}
-use Rattle.hss_keys.specs.Entries.{entries_of, messages_under}
+use Rattle.hss_keys.proofs.Words.{◌≡◌, drop, slice_get, entries_of, messages_under}
 use Rattle.hss_keys.proofs.records.LevelRecords.message.Given as goal
 
 abbrev pub invariant-loop-body : goal.invariant-loop-body

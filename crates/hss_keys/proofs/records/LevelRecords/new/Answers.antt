@@ -1,6 +1,4 @@
-use Rattle.std.proofs.Common.{refl, ap, arith}
-use Rattle.lms_sign.specs.Types.{leaf_count}
-use Rattle.hss_keys.specs.declared.seed.HssSeed.{HssSeed}
+use Rattle.hss_keys.proofs.Words.{refl, ap, arith, leaf_count, HssSeed}
 use Rattle.hss_keys.proofs.Form.{none_are}
 use Rattle.hss_keys.proofs.records.LevelRecords.new.Goals as goal
 

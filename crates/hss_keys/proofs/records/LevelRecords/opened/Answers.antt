@@ -1,7 +1,4 @@
-use Rattle.std.proofs.Common.{ap, arith, length}
-use Rattle.hss_keys.specs.Sound.{LevelRecordsState}
-use Rattle.lms_sign.specs.Types.{leaf_count}
-use Rattle.lms_sign.proofs.Sizes.{leaf_count-le}
+use Rattle.hss_keys.proofs.Words.{ap, arith, length, LevelRecordsState, leaf_count, leaf_count-le}
 use Rattle.hss_keys.proofs.Form.{are_counted}
 use Rattle.hss_keys.proofs.records.LevelRecords.opened.Goals as goal
 

@@ -1,8 +1,4 @@
-use Rattle.std.proofs.Common.{rules, ◌≡◌, true, ◌∙◌, ℕ, List, [], ◌∷◌, ◌++◌, Ok, ap, sym, subst, arith}
-use Rattle.hss_keys.specs.declared.entry.Entry.TheVariants.{Opens}
-use Rattle.hss_keys.specs.Entries.{entries_of, keys_of, opened_count, used_in}
-use Rattle.hss_keys.specs.Form.{entry_may_follow, level_records, may_follow}
-use Rattle.hss_keys.specs.Sound.{LevelRecordsState}
+use Rattle.hss_keys.proofs.Words.{rules, ◌≡◌, true, ◌∙◌, ℕ, List, [], ◌∷◌, ◌++◌, Ok, ap, sym, subst, arith, Opens, entries_of, keys_of, opened_count, used_in, entry_may_follow, level_records, may_follow, LevelRecordsState}
 use Rattle.hss_keys.proofs.Counts.{entries-more, follows_from, keys-opened, used-none}
 use Rattle.hss_keys.proofs.Form.{are_counted, one_more}
 use Rattle.hss_keys.proofs.records.LevelRecords.push_key.Goals as goal

@@ -1,9 +1,4 @@
-use Rattle.std.proofs.Common.{rules, ◌≡◌, true, ◌∙◌, ◌+◌, ℕ, List, [], ◌∷◌, ◌++◌, Ok, ap, sym, subst, arith}
-use Rattle.lms_sign.proofs.Sizes.{leaf_count-le}
-use Rattle.hss_keys.specs.declared.entry.Entry.TheVariants.{Binds}
-use Rattle.hss_keys.specs.Entries.{entries_of, keys_of, used_in}
-use Rattle.hss_keys.specs.Form.{entry_may_follow, level_records, may_follow}
-use Rattle.hss_keys.specs.Sound.{LevelRecordsState}
+use Rattle.hss_keys.proofs.Words.{rules, ◌≡◌, true, ◌∙◌, ◌+◌, ℕ, List, [], ◌∷◌, ◌++◌, Ok, ap, sym, subst, arith, leaf_count-le, Binds, entries_of, keys_of, used_in, entry_may_follow, level_records, may_follow, LevelRecordsState}
 use Rattle.hss_keys.proofs.Counts.{entries-more, follows_from, keys-bound, next_leaf, used-more}
 use Rattle.hss_keys.proofs.Form.{one_more}
 use Rattle.hss_keys.proofs.records.LevelRecords.push_message.Goals as goal

@@ -1,7 +1,4 @@
-use Rattle.std.proofs.Common.{◌-◌, ap, arith}
-use Rattle.hss_keys.specs.Entries.{entries_of, opened_count}
-use Rattle.hss_keys.specs.Sound.{LevelRecordsState}
-use Rattle.lms_sign.specs.Types.{leaf_count}
+use Rattle.hss_keys.proofs.Words.{◌-◌, ap, arith, entries_of, opened_count, LevelRecordsState, leaf_count}
 use Rattle.hss_keys.proofs.Form.{are_counted}
 use Rattle.hss_keys.proofs.records.LevelRecords.used.Goals as goal
 

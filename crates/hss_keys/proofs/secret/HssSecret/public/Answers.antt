@@ -1,6 +1,4 @@
-use Rattle.std.proofs.Common.{◌≡◌, ◌∙◌, refl, arith, length}
-use Rattle.lms_sign.proofs.Lists.{length-u32str, put_first, put_on, all_of_front}
-use Rattle.hss_keys.specs.Keys.{hss_key_of}
+use Rattle.hss_keys.proofs.Words.{◌≡◌, ◌∙◌, refl, arith, length, length-u32str, put_first, put_on, all_of_front, hss_key_of}
 use Rattle.hss_keys.proofs.secret.HssSecret.public.Goals as goal
 
 pub returns : goal.returns
