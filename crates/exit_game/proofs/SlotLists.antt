@@ -1,20 +1,14 @@
 -- Lists of slots: one changed, one taken out, one added.
-use Rattle.std.proofs.Common.{◌≡◌, ℕ, suc, ◌+◌, ◌<◌, ◌≤◌, ◌==◌, ◌||◌, cond, not, Bool, true, false, if◌then◌else◌, List, [], ◌∷◌, ◌++◌, length, take, drop, slice_set, slice_index_or, Option, Some, None, inl, inr, refl, sym, ap, ◌∙◌, subst, find, position, arith}
-use Rattle.std.specs.Prelude.{IsSome, Result, Ok, Err, OnOk, OnErr}
+use Rattle.exit_game.proofs.Words.{◌≡◌, ℕ, suc, ◌+◌, ◌<◌, ◌≤◌, ◌==◌, ◌||◌, cond, not, Bool, true, false, if◌then◌else◌, List, [], ◌∷◌, ◌++◌, length, take, drop, slice_set, slice_index_or, Some, None, refl, sym, ap, ◌∙◌, subst, find, position, arith, cases_lt, cases_eq, eq-eqb, ne_eqb, eqb-true, lt-ltb, le-ltb, common_steps, Slot, AreDistinct, slot_at, without_slot, with_slot_changed}
+use Rattle.std.specs.Prelude.{IsSome, Result, OnOk, OnErr}
 use Rattle.std.specs.List.{list_any, position_or_len}
-use Rattle.std.proofs.lemmas.Bool.{cases_lt, cases_eq, eq-eqb, ne_eqb, eqb-true, lt-ltb, le-ltb}
 use Rattle.std.proofs.lemmas.List.Folds.{list_any-append}
-use Rattle.exit_game.specs.declared.slot.Slot.{Slot}
-use Rattle.exit_game.specs.Slots.{AreDistinct, slot_at, without_slot, with_slot_changed}
 
 some_same : {A : Type 0} (x y : A) → Some x ≡ Some y → x ≡ y
 some_same x y e = cc
 
 eqb-flip : (x y : ℕ) → (x == y) ≡ (y == x)
-eqb-flip x y = elim (cases_eq x y) [
-  | inl is ↦ eq-eqb x y is ∙ sym (eq-eqb y x (sym is))
-  | inr isnt ↦ ne_eqb x y isnt ∙ sym (ne_eqb y x (λ e. isnt (sym e)))
-]
+eqb-flip x y = grind (arith, common_steps, cases_eq, eq-eqb, ne_eqb) steps 20000
 
 -- no slot at the block is changed where there is none
 changed-none : (m : ℕ) (change : Slot → Slot) (slots : List Slot)
@@ -62,8 +56,7 @@ changed-absent m change (x ∷ xs) le =
     ]) le
 
 or_parts : (a b : Bool) → (a || b) ≡ false → (a ≡ false) × (b ≡ false)
-or_parts true b wrong = absurd (cc wrong)
-or_parts false b is = (refl, is)
+or_parts a b wrong = grind (arith, common_steps) steps 20000
 
 any-changed : (m k : ℕ) (change : Slot → Slot) → ((x : Slot) → (change x).block ≡ x.block)
     → (slots : List Slot)
@@ -95,12 +88,7 @@ any-without : (m k : ℕ) (slots : List Slot) → list_any (λ x. x.block == k) 
 any-without m k [] h = refl
 any-without m k (x ∷ xs) h =
     let parts = or_parts (x.block == k) (list_any (λ y. y.block == k) xs) h in
-    elim (x.block == m) as (λ b. list_any (λ y. y.block == k)
-    (cond (not b) (x ∷ without_slot m xs) (without_slot m xs)) ≡ false) [
-      | true ↦ any-without m k xs parts.1
-      | false ↦ ap (λ (b : Bool). b || list_any (λ y. y.block == k) (without_slot m xs)) parts.0
-          ∙ any-without m k xs parts.1
-    ]
+    grind (arith, common_steps, any-without m k xs parts.1) steps 20000
 
 pub distinct-without : (m : ℕ) (slots : List Slot) → AreDistinct slots → AreDistinct (without_slot m slots)
 distinct-without m [] h = tt
@@ -116,8 +104,7 @@ pub distinct-push : (slots : List Slot) (new : Slot) → AreDistinct slots
 distinct-push [] new h none = (refl, tt)
 distinct-push (x ∷ xs) new h none =
     let parts = or_parts (x.block == new.block) (list_any (λ y. y.block == new.block) xs) none in (
-      list_any-append (λ y. y.block == x.block) xs (new ∷ [])
-          ∙ (λ i. h.0 i || ((eqb-flip new.block x.block ∙ parts.0) i || false)),
+      grind (arith, common_steps, list_any-append, eqb-flip) steps 20000,
       distinct-push xs new h.1 parts.1,
     )
 
@@ -127,31 +114,12 @@ pub changed-place : (m : ℕ) (change : Slot → Slot) (slots : List Slot) (plac
     → Some place ≡ position (λ x. x.block == m) slots → item ≡ slice_index_or slots place item → new ≡ change item
     → slice_set slots place new ≡ with_slot_changed m change slots
 changed-place m change slots place item new distinct found at is =
-    let p : ℕ = position_or_len (λ x. x.block == m) slots in
-    elim (cases_lt p (length slots)) [
-      | inl below ↦
-          let same : p ≡ place = some_same p place (simp (lt-ltb p (length slots) below) at (sym found)) in
-          ap (λ v. slice_set slots place v) (is ∙ ap change at)
-          ∙ ap (λ n. slice_set slots n (change (slice_index_or slots n item))) (sym same)
-          ∙ changed-at m change slots item distinct below
-      | inr above ↦ absurd (none_some place (simp (le-ltb p (length slots) above) at (sym found)))
-    ]
-  where
-    none_some : (x : ℕ) → None ≡ Some x → ⊥
-    none_some x e = cc
+    grind (arith, common_steps, cases_lt, some_same, lt-ltb, changed-at, le-ltb) steps 20000
 
 -- none is changed where none is found
 pub changed-nowhere : (m : ℕ) (change : Slot → Slot) (slots : List Slot)
     → None ≡ position (λ x. x.block == m) slots → slots ≡ with_slot_changed m change slots
-changed-nowhere m change slots found =
-    let p : ℕ = position_or_len (λ x. x.block == m) slots in
-    elim (cases_lt p (length slots)) [
-      | inl below ↦ absurd (some_none p (simp (lt-ltb p (length slots) below) at (sym found)))
-      | inr above ↦ sym (changed-absent m change slots above)
-    ]
-  where
-    some_none : (x : ℕ) → Some x ≡ None → ⊥
-    some_none x e = cc
+changed-nowhere m change slots found = grind (arith, common_steps, cases_lt, lt-ltb, changed-absent) steps 20000
 
 -- ---- a slot that is taken out
 
@@ -159,10 +127,7 @@ without-none : (m : ℕ) (slots : List Slot) → list_any (λ x. x.block == m) s
 without-none m [] none = refl
 without-none m (x ∷ xs) none =
     let parts = or_parts (x.block == m) (list_any (λ y. y.block == m) xs) none in
-    elim (x.block == m) as (λ b. b ≡ false → cond (not b) (x ∷ without_slot m xs) (without_slot m xs) ≡ x ∷ xs) [
-      | true ↦ λ wrong. absurd (cc wrong)
-      | false ↦ λ isnt. ap (λ (l : List Slot). x ∷ l) (without-none m xs parts.1)
-    ] parts.0
+    grind (arith, common_steps, without-none m xs parts.1) steps 20000
 
 -- what is found at a place, and what is left without it
 abbrev IsTaken : ℕ → List Slot → ℕ → Slot → Type 0
@@ -203,22 +168,12 @@ taken-at m (x ∷ xs) d distinct lt =
 -- the place at which one is found
 place-of : (m : ℕ) (slots : List Slot) (place : ℕ) → Some place ≡ position (λ x. x.block == m) slots
     → (position_or_len (λ x. x.block == m) slots ≡ place) × (position_or_len (λ x. x.block == m) slots < length slots)
-place-of m slots place found =
-    let p : ℕ = position_or_len (λ x. x.block == m) slots in
-    elim (cases_lt p (length slots)) [
-      | inl below ↦ (some_same p place (simp (lt-ltb p (length slots) below) at (sym found)), below)
-      | inr above ↦ absurd (none_some place (simp (le-ltb p (length slots) above) at (sym found)))
-    ]
-  where
-    none_some : (x : ℕ) → None ≡ Some x → ⊥
-    none_some x e = cc
+place-of m slots place found = grind (arith, common_steps, cases_lt, some_same, lt-ltb, le-ltb) steps 20000
 
 pub taken-slot : (m : ℕ) (slots : List Slot) (place : ℕ) (item : Slot) → AreDistinct slots
     → Some place ≡ position (λ x. x.block == m) slots → item ≡ slice_index_or slots place item
     → slot_at m slots ≡ Some item
-taken-slot m slots place item distinct found at =
-    let p = place-of m slots place found in
-    (taken-at m slots item distinct p.1).0 ∙ ap (λ n. Some (slice_index_or slots n item)) p.0 ∙ ap Some (sym at)
+taken-slot m slots place item distinct found at = grind (arith, common_steps, place-of, taken-at) steps 20000
 
 pub taken-others : (m : ℕ) (slots : List Slot) (place : ℕ) (item : Slot) → AreDistinct slots
     → Some place ≡ position (λ x. x.block == m) slots
@@ -240,18 +195,7 @@ absent m (x ∷ xs) le =
 
 pub found-nowhere : (m : ℕ) (slots : List Slot) → None ≡ position (λ x. x.block == m) slots → IsSome (slot_at m slots)
     → ⊥
-found-nowhere m slots found there =
-    let p : ℕ = position_or_len (λ x. x.block == m) slots in
-    elim (cases_lt p (length slots)) [
-      | inl below ↦ some_none p (simp (lt-ltb p (length slots) below) at (sym found))
-      | inr above ↦ none_there (subst (λ (o : Option Slot). IsSome o) (absent m slots above) there)
-    ]
-  where
-    some_none : (x : ℕ) → Some x ≡ None → ⊥
-    some_none x e = cc
-
-    none_there : IsSome {T = Slot} None → ⊥
-    none_there e = cc
+found-nowhere m slots found there = grind (arith, common_steps, cases_lt, lt-ltb, absent) steps 20000
 
 -- where no slot is found at a block, none is there
 pub none-any : (m : ℕ) (slots : List Slot) → slot_at m slots ≡ None → list_any (λ x. x.block == m) slots ≡ false
@@ -267,5 +211,4 @@ none-any m (x ∷ xs) none =
 pub either-way : {A E : Type 0} (changed kept new : List Slot) (r : Result A E) → OnOk r (new ≡ changed)
     → OnErr r (new ≡ kept)
     → AreDistinct changed → AreDistinct kept → AreDistinct new
-either-way changed kept new (Ok a) ok err is_changed is_kept = subst AreDistinct (sym ok) is_changed
-either-way changed kept new (Err e) ok err is_changed is_kept = subst AreDistinct (sym err) is_kept
+either-way changed kept new r ok err is_changed is_kept = grind (arith, common_steps) steps 20000

@@ -1,7 +1,4 @@
-use Rattle.std.proofs.Common.{◌≡◌, ℕ, zero, suc, ◌+◌, ◌<◌, Bool, true, false, if◌then◌else◌, List, [], ◌∷◌, ◌++◌, map, length, take, drop, slice_set, slice_index_or, refl, sym, ap, ◌∙◌, arith}
-use Rattle.std.proofs.lemmas.Bool.{eq-eqb, ne_eqb}
-use Rattle.exit_game.specs.declared.challenges.Challenge.{Challenge}
-use Rattle.exit_game.specs.Challenges.{answered_at}
+use Rattle.exit_game.proofs.Words.{◌≡◌, ℕ, zero, suc, ◌+◌, ◌<◌, Bool, true, false, if◌then◌else◌, List, [], ◌∷◌, ◌++◌, map, length, take, drop, slice_set, slice_index_or, refl, sym, ap, ◌∙◌, arith, eq-eqb, ne_eqb, Challenge, answered_at}
 use Rattle.exit_game.proofs.challenges.answer_all.Goals as goal
 use Rattle.exit_game.proofs.challenges.answer_all.Goals.{then-challenge-block, else-challenge-block}
 

@@ -1,5 +1,4 @@
-use Rattle.std.proofs.Common.{◌≡◌, ◌++◌, map, take, drop}
-use Rattle.exit_game.specs.Challenges.{answered_at}
+use Rattle.exit_game.proofs.Words.{◌≡◌, ◌++◌, map, take, drop, answered_at}
 use Rattle.exit_game.proofs.challenges.answer_all.Given as goal
 
 abbrev pub invariant-loop-challenge : goal.invariant-loop-challenge

@@ -1,6 +1,4 @@
-use Rattle.std.proofs.Common.{◌==◌, List, position, sym, ap, ◌∙◌}
-use Rattle.exit_game.specs.declared.slot.Slot.{Slot}
-use Rattle.exit_game.specs.Slots.{with_challenge}
+use Rattle.exit_game.proofs.Words.{◌==◌, List, position, sym, ap, ◌∙◌, Slot, with_challenge}
 use Rattle.exit_game.proofs.SlotLists.{changed-place, changed-nowhere}
 use Rattle.exit_game.proofs.slots.challenge_slot.Goals as goal
 

@@ -1,5 +1,4 @@
-use Rattle.std.proofs.Common.{◌==◌, List, position, sym, ap, ◌∙◌}
-use Rattle.exit_game.specs.declared.slot.Slot.{Slot}
+use Rattle.exit_game.proofs.Words.{◌==◌, List, position, sym, ap, ◌∙◌, Slot}
 use Rattle.exit_game.proofs.SlotLists.{found-nowhere, taken-slot, taken-others}
 use Rattle.exit_game.proofs.slots.take_slot.Goals as goal
 

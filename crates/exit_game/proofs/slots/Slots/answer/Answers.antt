@@ -1,5 +1,4 @@
-use Rattle.std.proofs.Common.{refl}
-use Rattle.exit_game.specs.Slots.{with_answer}
+use Rattle.exit_game.proofs.Words.{refl, with_answer}
 use Rattle.exit_game.proofs.SlotLists.{distinct-changed}
 use Rattle.exit_game.proofs.slots.Slots.answer.Goals as goal
 

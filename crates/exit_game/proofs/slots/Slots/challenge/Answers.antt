@@ -1,5 +1,4 @@
-use Rattle.std.proofs.Common.{refl}
-use Rattle.exit_game.specs.Slots.{with_challenge}
+use Rattle.exit_game.proofs.Words.{refl, with_challenge}
 use Rattle.exit_game.proofs.SlotLists.{distinct-changed, either-way}
 use Rattle.exit_game.proofs.slots.Slots.challenge.Goals as goal
 

@@ -1,5 +1,4 @@
-use Rattle.std.proofs.Common.{refl}
-use Rattle.exit_game.specs.Slots.{without_last}
+use Rattle.exit_game.proofs.Words.{refl, without_last}
 use Rattle.exit_game.proofs.SlotLists.{distinct-changed}
 use Rattle.exit_game.proofs.slots.Slots.unchallenge.Goals as goal
 
