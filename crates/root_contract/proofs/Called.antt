@@ -1,38 +1,13 @@
 -- What each kind of accepted call changes, and what is answered.
-use Rattle.std.proofs.Common.{◌≡◌, ℕ, Bool, true, false, if◌then◌else◌, List, [], ◌∷◌, ◌++◌, Option, Some, None, Result, Ok, Err, refl, sym, ap, ◌∙◌, subst, ◌||◌}
-use Rattle.std.specs.Prelude.{IsErrAnd, is_some, ◌≢◌}
-use Rattle.std.proofs.lemmas.Bool.{false≢true}
-use Rattle.exit_game.specs.declared.challenges.Challenge.{Challenge as Kept}
-use Rattle.exit_game.specs.declared.slot.Slot.{Slot}
-use Rattle.plasma_tx.specs.declared.owner.Owner.{Owner}
-use Rattle.plasma_tx.specs.declared.opening.RawOpening.{RawOpening}
-use Rattle.plasma_tx.specs.declared.call.Shown.{Shown}
-use Rattle.plasma_tx.specs.declared.call.RootCall.{RootCall}
-use Rattle.plasma_tx.specs.declared.call.RootCall.TheVariants.{Tick, Deposit, Commit, StartDeposit, StartSpend, After, Between, Before, Respond, Finish}
-use Rattle.plasma_tx.specs.declared.views.CoinView.{CoinView}
-use Rattle.plasma_tx.specs.declared.answer.Answer.{Answer}
-use Rattle.plasma_tx.specs.declared.answer.Answer.TheVariants.{Refused as IsRefused, NoMemory as WantsMemory}
+use Rattle.root_contract.proofs.Words.{◌≡◌, ℕ, Bool, true, false, if◌then◌else◌, List, [], ◌∷◌, ◌++◌, Option, Some, None, Result, Err, sym, ap, ◌∙◌, subst, ◌||◌, arith, IsErrAnd, is_some, ◌≢◌, false≢true, common_steps, Kept, Slot, Owner, RawOpening, Shown, RootCall, Tick, Deposit, Commit, StartDeposit, StartSpend, After, Between, Before, Respond, Finish, Answer, IsRefused, WantsMemory, Chain, with_log, EXIT_BOND, CHALLENGE_BOND, Tests, rules_of, moved, pays, takes, releases, funded, amount_of, cancel_pays, exit_bonds, answered_bond, challenge_of, finish_pays, finish_releases, is_accepted, log_after, IsLegal, accepted_calls_show, responds_answer, Stop, as_exit, as_challenge, IsUnchallenged, IsOpen, Judges, Takes, table_answer, answer_of, shows_opening, may_want, Changes, IsAccepted}
 use Rattle.plasma_tx.specs.declared.answer.Refusal.{Refusal}
-use Rattle.plasma_tx.specs.Chain.{Chain, with_log}
-use Rattle.plasma_tx.specs.Views.{now, Challenge, Exit, exits, exit_at, coin_at, challenge_at, block_of, owner_of, owner_of_coin, owner_of_opening, is_responded, responses, is_withdrawn, without_exit, with_exit_changed, with_challenge, with_answer, new_challenge, deposit_exit, spend_exit}
-use Rattle.plasma_tx.specs.Laws.{is_challenged_at}
+use Rattle.plasma_tx.specs.Views.{now, Exit, exits, exit_at, coin_at, challenge_at, block_of, owner_of, owner_of_coin, owner_of_opening, is_responded, responses, is_withdrawn, without_exit, with_exit_changed, with_challenge, with_answer}
 use Rattle.plasma_tx.proofs.Answered.{new_challenges_are_open}
-use Rattle.plasma_tx.specs.declared.rules.TheConstants.{EXIT_BOND, CHALLENGE_BOND}
-use Rattle.plasma_tx.specs.Shown.{Tests, rules_of}
-use Rattle.plasma_tx.specs.Money.{moved, pays, takes, releases, funded, amount_of, cancel_pays, exit_bonds, answered_bond, challenge_of, finish_pays, finish_releases}
-use Rattle.plasma_tx.specs.Table.{is_accepted, log_after, IsLegal}
-use Rattle.plasma_tx.proofs.Accepted.{accepted_calls_show}
-use Rattle.plasma_tx.proofs.Bounds.{responds_answer}
-use Rattle.root_contract.specs.declared.stop.Stop.{Stop}
-use Rattle.root_contract.specs.declared.stop.Stop.TheVariants.{Refused, NoMemory}
-use Rattle.root_contract.specs.Exits.{as_exit, as_challenge, IsUnchallenged, IsOpen}
-use Rattle.root_contract.specs.Judging.{Judges, Takes, table_answer, answer_of, shows_opening, may_want}
-use Rattle.root_contract.specs.Changes.{Changes, IsAccepted}
+use Rattle.root_contract.specs.declared.stop.Stop.TheVariants.{NoMemory}
 use Rattle.root_contract.proofs.SlotLemmas.{without-none}
 
 or_right : (x y : Bool) → y ≡ true → (x || y) ≡ true
-or_right true y is = refl
-or_right false y is = is
+or_right x y is = grind (arith, common_steps) steps 20000
 
 -- tests that no opening and no signature passes, for a call that shows none
 pub no_tests : Tests
@@ -43,19 +18,13 @@ pub takes-stopped : (tests : Tests) (chain : Chain) (call : RootCall) (A : Type 
     (result : Result Answer Stop) → IsErrAnd result (λ stop. stop ≡ why)
     → Judges (table_answer tests chain call) effect (Err why) → (why ≡ NoMemory → may_want tests chain call ≡ true)
     → Takes tests chain chain call result
-takes-stopped tests chain call A effect why (Ok answer) is judged may = absurd is
-takes-stopped tests chain call A effect (Refused why) (Err stop) is judged may =
-    subst (λ (s : Stop). Takes tests chain chain call (Err s)) (sym is) (judged, refl)
-takes-stopped tests chain call A effect NoMemory (Err stop) is judged may =
-    subst (λ (s : Stop). Takes tests chain chain call (Err s)) (sym is) (refl, may refl)
+takes-stopped tests chain call _ effect why result is judged may = grind (arith, common_steps) steps 20000
 
 -- memory ran out, where it may be taken
 pub takes-unheld : (tests : Tests) (old new : Chain) (call : RootCall) (result : Result Answer Stop)
     → IsErrAnd result (λ stop. stop ≡ NoMemory) → new ≡ old → may_want tests old call ≡ true
     → Takes tests old new call result
-takes-unheld tests old new call (Ok answer) is same may = absurd is
-takes-unheld tests old new call (Err stop) is same may =
-    subst (λ (s : Stop). Takes tests old new call (Err s)) (sym is) (same, may)
+takes-unheld tests old new call result is same may = grind (arith, common_steps) steps 20000
 
 -- memory may be taken for a call that is accepted
 pub accepted-may : (tests : Tests) (chain : Chain) (call : RootCall) (effect : Answer)
@@ -70,39 +39,18 @@ accepted tests chain call effect is accepts = (tests, ap is_accepted is ∙ acce
 pub tick-changes : (chain : Chain) (time : ℕ) → IsAccepted chain (Tick time)
     → Changes chain (Tick time) (exits chain.log) [] [] []
 unfolding exits pays takes releases funded
-tick-changes chain time accepted = record {
-  accepted = accepted;
-  exits_are = refl;
-  pays_are = refl;
-  takes_are = refl;
-  releases_are = refl;
-  funds_are = refl;
-}
+tick-changes chain time accepted = grind (arith, common_steps, accepted) steps 20000
 
 pub commit-changes : (chain : Chain) (account : ℕ) (root : List ℕ) → IsAccepted chain (Commit account root)
     → Changes chain (Commit account root) (exits chain.log) [] [] []
 unfolding exits pays takes releases funded
-commit-changes chain account root accepted = record {
-  accepted = accepted;
-  exits_are = refl;
-  pays_are = refl;
-  takes_are = refl;
-  releases_are = refl;
-  funds_are = refl;
-}
+commit-changes chain account root accepted = grind (arith, common_steps, accepted) steps 20000
 
 pub deposit-changes : (chain : Chain) (account amount : ℕ) (key : List ℕ)
     → IsAccepted chain (Deposit account amount key)
     → Changes chain (Deposit account amount key) (exits chain.log) [] (moved account amount ∷ []) []
 unfolding exits pays takes releases funded
-deposit-changes chain account amount key accepted = record {
-  accepted = accepted;
-  exits_are = refl;
-  pays_are = refl;
-  takes_are = refl;
-  releases_are = refl;
-  funds_are = refl;
-}
+deposit-changes chain account amount key accepted = grind (arith, common_steps, accepted) steps 20000
 
 -- ---- starts
 
@@ -118,11 +66,6 @@ new_slot coin block parent owner parent_owner start = record {
   challenges = [];
 }
 
-pub start_deposit-none : (chain : Chain) (account c block : ℕ) → IsAccepted chain (StartDeposit account c block)
-    → exit_at chain.log c block ≡ None
-start_deposit-none chain account c block accepted =
-    (accepted_calls_show accepted.0 (rules_of chain) chain.log (StartDeposit account c block) accepted.1).none_stands
-
 pub start_deposit-changes : (chain : Chain) (account c block : ℕ) (owner : Owner) (slot : Slot)
     → IsAccepted chain (StartDeposit account c block) → owner ≡ owner_of_coin (coin_at chain.log c)
     → slot ≡ new_slot c block 0 owner owner (now chain.log)
@@ -131,33 +74,7 @@ pub start_deposit-changes : (chain : Chain) (account c block : ℕ) (owner : Own
 unfolding exits exit_at pays takes releases funded
 start_deposit-changes chain account c block owner slot accepted is slot_is =
     let shown = accepted_calls_show accepted.0 (rules_of chain) chain.log (StartDeposit account c block) accepted.1 in
-    let own : account ≡ owner.account =
-    shown.owner ∙ sym (ap (λ (found : Option CoinView). (owner_of_coin found).account) shown.there)
-    ∙ ap (λ (o : Owner). o.account) (sym is) in
-    let same : deposit_exit chain.log account c block ≡ as_exit slot = (λ i. record {
-      coin = c;
-      block = block;
-      parent = 0;
-      owner = sym is i;
-      parent_owner = sym is i;
-      account = own i;
-      start = now chain.log;
-      challenges = [];
-    }) ∙ ap as_exit (sym slot_is) in
-    record {
-      accepted = accepted;
-      exits_are = λ i. without-none c block (exits chain.log) shown.none_stands i ++ same i ∷ [];
-      pays_are = refl;
-      takes_are = ap (λ a. moved a EXIT_BOND ∷ []) (own ∙ ap (λ (s : Slot). s.owner.account) (sym slot_is));
-      releases_are = refl;
-      funds_are = refl;
-    }
-
-pub start_spend-none : (chain : Chain) (account c : ℕ) (parent : Shown) (exit : RawOpening)
-    → IsAccepted chain (StartSpend account c parent exit) → exit_at chain.log c exit.block ≡ None
-start_spend-none chain account c parent exit accepted =
-    (accepted_calls_show accepted.0 (rules_of chain) chain.log (StartSpend account c parent exit)
-    accepted.1).none_stands
+    grind (arith, common_steps, accepted, without-none) steps 20000
 
 pub start_spend-changes : (chain : Chain) (account c : ℕ) (parent : Shown) (exit : RawOpening)
     (owner parent_owner : Owner) (shown_block : ℕ) (slot : Slot) → IsAccepted chain (StartSpend account c parent exit)
@@ -170,24 +87,7 @@ start_spend-changes chain account c parent exit owner parent_owner shown_block s
     slot_is =
     let shown = accepted_calls_show accepted.0 (rules_of chain) chain.log
     (StartSpend account c parent exit) accepted.1 in
-    let same : spend_exit chain.log account c parent exit ≡ as_exit slot = (λ i. record {
-      coin = c;
-      block = exit.block;
-      parent = sym block i;
-      owner = sym is i;
-      parent_owner = sym parent_is i;
-      account = sym own i;
-      start = now chain.log;
-      challenges = [];
-    }) ∙ ap as_exit (sym slot_is) in
-    record {
-      accepted = accepted;
-      exits_are = λ i. without-none c exit.block (exits chain.log) shown.none_stands i ++ same i ∷ [];
-      pays_are = refl;
-      takes_are = ap (λ a. moved a EXIT_BOND ∷ []) (sym own ∙ ap (λ (s : Slot). s.owner.account) (sym slot_is));
-      releases_are = refl;
-      funds_are = refl;
-    }
+    grind (arith, common_steps, accepted, without-none) steps 20000
 
 -- ---- challenges
 
@@ -196,28 +96,14 @@ pub after-changes : (chain : Chain) (account c e : ℕ) (spend : RawOpening)
     → Changes chain (After account c e spend) (without_exit c e (exits chain.log))
     (cancel_pays account (exit_at chain.log c e)) [] (exit_bonds (exit_at chain.log c e))
 unfolding exits pays takes releases funded
-after-changes chain account c e spend accepted = record {
-  accepted = accepted;
-  exits_are = refl;
-  pays_are = refl;
-  takes_are = refl;
-  releases_are = refl;
-  funds_are = refl;
-}
+after-changes chain account c e spend accepted = grind (arith, common_steps, accepted) steps 20000
 
 pub between-changes : (chain : Chain) (account c e : ℕ) (spend : RawOpening)
     → IsAccepted chain (Between account c e spend)
     → Changes chain (Between account c e spend) (without_exit c e (exits chain.log))
     (cancel_pays account (exit_at chain.log c e)) [] (exit_bonds (exit_at chain.log c e))
 unfolding exits pays takes releases funded
-between-changes chain account c e spend accepted = record {
-  accepted = accepted;
-  exits_are = refl;
-  pays_are = refl;
-  takes_are = refl;
-  releases_are = refl;
-  funds_are = refl;
-}
+between-changes chain account c e spend accepted = grind (arith, common_steps, accepted) steps 20000
 
 unchallenged_exit : (b : ℕ) (found : Option Exit) (exit : Exit) → found ≡ Some exit
     → challenge_at b exit.challenges ≡ None → IsUnchallenged b found
@@ -240,24 +126,8 @@ unfolding exits pays takes releases funded
 before-changes chain account c e shown kept legal accepted block owner by at answered =
     let shows = accepted_calls_show accepted.0 (rules_of chain) chain.log (Before account c e shown) accepted.1 in
     let unanswered : is_responded c e (block_of shown) (responses chain.log) ≡ false =
-    new_challenges_are_open chain.log c e (block_of shown) (responds_answer (rules_of chain) chain.log legal)
-    (ap is_some shows.stands)
-    (ap (is_challenged_at (block_of shown)) shows.stands ∙ ap is_some shows.none_there) in
-    let same : new_challenge chain.log account c e shown ≡ as_challenge kept = (λ i. record {
-      block = sym block i;
-      owner = sym owner i;
-      by = sym by i;
-      at = sym at i;
-      answered = (unanswered ∙ sym answered) i;
-    }) in
-    record {
-      accepted = accepted;
-      exits_are = ap (λ (new : Challenge). with_exit_changed c e (with_challenge new) (exits chain.log)) same;
-      pays_are = refl;
-      takes_are = ap (λ a. moved a CHALLENGE_BOND ∷ []) (sym by);
-      releases_are = refl;
-      funds_are = refl;
-    }
+    grind (arith, common_steps, new_challenges_are_open, responds_answer) steps 20000 in
+    grind (arith, common_steps, accepted) steps 20000
 
 pub respond-open : (chain : Chain) (account c e challenged : ℕ) (spend : RawOpening)
     → IsAccepted chain (Respond account c e challenged spend) → IsOpen challenged (exit_at chain.log c e)
@@ -273,28 +143,14 @@ pub respond-changes : (chain : Chain) (account c e challenged : ℕ) (spend : Ra
     (with_exit_changed c e (with_answer challenged) (exits chain.log)) (moved account CHALLENGE_BOND ∷ []) []
     (moved by CHALLENGE_BOND ∷ [])
 unfolding exits pays takes releases funded
-respond-changes chain account c e challenged spend by accepted is = record {
-  accepted = accepted;
-  exits_are = refl;
-  pays_are = refl;
-  takes_are = refl;
-  releases_are = is;
-  funds_are = refl;
-}
+respond-changes chain account c e challenged spend by accepted is = grind (arith, common_steps, accepted) steps 20000
 
 pub finish-changes : (chain : Chain) (account c e : ℕ) → IsAccepted chain (Finish account c e)
     → Changes chain (Finish account c e) (without_exit c e (exits chain.log))
     (finish_pays (is_withdrawn chain.log c) (amount_of (coin_at chain.log c)) (exit_at chain.log c e)) []
     (finish_releases (is_withdrawn chain.log c) (coin_at chain.log c) (exit_at chain.log c e))
 unfolding exits pays takes releases funded
-finish-changes chain account c e accepted = record {
-  accepted = accepted;
-  exits_are = refl;
-  pays_are = refl;
-  takes_are = refl;
-  releases_are = refl;
-  funds_are = refl;
-}
+finish-changes chain account c e accepted = grind (arith, common_steps, accepted) steps 20000
 
 -- the exit of an accepted finish stands
 pub finish-stands : (chain : Chain) (account c e : ℕ) → IsAccepted chain (Finish account c e)
@@ -309,9 +165,7 @@ log-accepted : (tests : Tests) (old new : Chain) (call : RootCall) (answer : Ans
     → answer ≡ table_answer tests old call → is_accepted answer ≡ true → new ≡ with_log old (call ∷ old.log)
     → new ≡ with_log old (log_after tests (rules_of old) old.log call)
 unfolding log_after
-log-accepted tests old new call answer is accepts taken =
-    let yes_so : is_accepted (table_answer tests old call) ≡ true = ap is_accepted (sym is) ∙ accepts in
-    taken ∙ ap (λ (b : Bool). with_log old (if b then call ∷ old.log else old.log)) (sym yes_so)
+log-accepted tests old new call answer is accepts taken = grind (arith, common_steps) steps 20000
 
 log-refused : (tests : Tests) (old new : Chain) (call : RootCall) (why : Refusal)
     → table_answer tests old call ≡ IsRefused why → new ≡ old
@@ -323,27 +177,17 @@ log-refused tests old new call why is same =
 -- the clauses of a call, by what it did
 pub call-answer : (tests : Tests) (old new : Chain) (call : RootCall) (taken : Result Answer Stop)
     → Takes tests old new call taken → answer_of taken ≢ WantsMemory → answer_of taken ≡ table_answer tests old call
-call-answer tests old new call (Ok answer) takes some = takes.0
-call-answer tests old new call (Err (Refused why)) takes some = sym takes.0
-call-answer tests old new call (Err NoMemory) takes some = absurd (some refl)
+call-answer tests old new call taken takes some = grind (arith, common_steps) steps 20000
 
 pub call-log : (tests : Tests) (old new : Chain) (call : RootCall) (taken : Result Answer Stop)
     → Takes tests old new call taken → answer_of taken ≢ WantsMemory
     → new ≡ with_log old (log_after tests (rules_of old) old.log call)
-call-log tests old new call (Ok answer) takes some = log-accepted tests old new call answer takes.0 takes.1 takes.2
-call-log tests old new call (Err (Refused why)) takes some = log-refused tests old new call why takes.0 takes.1
-call-log tests old new call (Err NoMemory) takes some = absurd (some refl)
+call-log tests old new call taken takes some = grind (arith, common_steps, log-accepted, log-refused) steps 20000
 
 pub call-no_memory : (tests : Tests) (old new : Chain) (call : RootCall) (taken : Result Answer Stop)
     → Takes tests old new call taken → answer_of taken ≡ WantsMemory → new ≡ old
-call-no_memory tests old new call (Ok answer) takes is =
-    absurd (false≢true (ap is_accepted (sym is) ∙ takes.1))
-call-no_memory tests old new call (Err (Refused why)) takes is = takes.1
-call-no_memory tests old new call (Err NoMemory) takes is = takes.0
+call-no_memory tests old new call taken takes is = grind (arith, common_steps, false≢true) steps 20000
 
 pub call-memory : (tests : Tests) (old new : Chain) (call : RootCall) (taken : Result Answer Stop)
     → Takes tests old new call taken → answer_of taken ≡ WantsMemory → may_want tests old call ≡ true
-call-memory tests old new call (Ok answer) takes is =
-    absurd (false≢true (ap is_accepted (sym is) ∙ takes.1))
-call-memory tests old new call (Err (Refused why)) takes is = absurd (cc)
-call-memory tests old new call (Err NoMemory) takes is = takes.1
+call-memory tests old new call taken takes is = grind (arith, common_steps, false≢true) steps 20000

@@ -1,3 +1,4 @@
+pub mod Words
 pub mod SlotLemmas
 pub mod Agreeing
 pub mod Moving

@@ -1,13 +1,8 @@
 -- Money of a ledger by movements.
-use Rattle.std.proofs.Common.{◌≡◌, ℕ, ◌+◌, ◌-◌, ◌<◌, ◌≤◌, [], ◌∷◌, Result, Ok, Err, sym, ap, ◌∙◌, arith}
-use Rattle.std.specs.Prelude.{MatchResult, IsTrue}
-use Rattle.bond_ledger.proofs.Known.{held_is_of_known}
+use Rattle.root_contract.proofs.Words.{◌≡◌, ℕ, ◌+◌, ◌-◌, ◌<◌, ◌≤◌, [], ◌∷◌, Result, Ok, Err, sym, ap, ◌∙◌, arith, MatchResult, IsTrue, common_steps, held_is_of_known, Ledger, balance_in, held_in, funded_in, is_known, amount_at, HasSums, moved, share_of}
 use Rattle.bond_ledger.specs.declared.TheConstants.{MOST_MONEY}
-use Rattle.bond_ledger.specs.declared.ledger.Ledger.{Ledger}
 use Rattle.bond_ledger.specs.declared.ledger.NoFunds.{NoFunds}
 use Rattle.bond_ledger.specs.declared.ledger.SumTooLarge.{SumTooLarge}
-use Rattle.bond_ledger.specs.Ledger.{balance_in, held_in, funded_in, is_known, amount_at, HasSums}
-use Rattle.plasma_tx.specs.Money.{moved, share_of}
 use Rattle.root_contract.proofs.SettlingLemmas.{share-one}
 
 -- money that suffices is held
@@ -37,13 +32,7 @@ pub fund-ok : (old new : Ledger) (account amount : ℕ) (r : Result (Unit {0}) S
     → funded_in old + amount ≤ MOST_MONEY
     → HasSums old new (λ a. balance_in old a + share_of a (moved account amount ∷ [])) (held_in old)
     (funded_in old + amount)
-fund-ok old new account amount (Ok x) is fits = record {
-  balances = λ a. is.1.balances a ∙ ap (λ x. balance_in old a + x) (sym (share-one a account amount));
-  helds = is.1.helds;
-  known = is.1.known;
-  funds = is.1.funds;
-}
-fund-ok old new account amount (Err why) is fits = absurd (omega (arith, is.0))
+fund-ok old new account amount r is fits = grind (arith, common_steps, share-one) steps 20000
 
 -- an account of which money is held is known
 pub known-held : (ledger : Ledger) (account amount : ℕ) → amount ≤ held_in ledger account → 0 < amount
@@ -56,9 +45,4 @@ pub paid-on : (old new : Ledger) (from to amount : ℕ)
     (funded_in old)
     → HasSums old new (λ a. balance_in old a + share_of a (moved to amount ∷ []))
     (λ a. held_in old a - share_of a (moved from amount ∷ [])) (funded_in old)
-paid-on old new from to amount sums = record {
-  balances = λ a. sums.balances a ∙ ap (λ x. balance_in old a + x) (sym (share-one a to amount));
-  helds = λ a. sums.helds a ∙ ap (λ x. held_in old a - x) (sym (share-one a from amount));
-  known = sums.known;
-  funds = sums.funds;
-}
+paid-on old new from to amount sums = grind (arith, common_steps, share-one) steps 20000

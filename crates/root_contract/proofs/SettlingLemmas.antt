@@ -1,17 +1,5 @@
 -- The money of an exit that leaves: the shares of the accounts in it, by its slot.
-use Rattle.std.proofs.Common.{◌≡◌, ℕ, ◌+◌, ◌≤◌, ◌==◌, not, Bool, true, false, cond, if◌then◌else◌, List, [], ◌∷◌, ◌++◌, length, map, filter, Option, Some, None, refl, sym, ap, ◌∙◌, arith}
-use Rattle.std.specs.Prelude.{option_to_list}
-use Rattle.std.specs.Option.{option_map}
-use Rattle.std.proofs.lemmas.Bool.{eq-eqb}
-use Rattle.exit_game.specs.declared.challenges.Challenge.{Challenge as Kept}
-use Rattle.exit_game.specs.declared.slot.Slot.{Slot}
-use Rattle.bond_ledger.specs.Ledger.{amount_at}
-use Rattle.plasma_tx.specs.declared.rules.TheConstants.{EXIT_BOND, CHALLENGE_BOND}
-use Rattle.plasma_tx.specs.declared.movement.Movement.{Movement}
-use Rattle.plasma_tx.specs.Money.{moved, share_of, cancel_pays, exit_bonds, challenge_bonds}
-use Rattle.plasma_tx.specs.Views.{Challenge}
-use Rattle.root_contract.specs.Exits.{as_challenge, as_exit}
-use Rattle.root_contract.specs.Settling.{open_bonds, first_open, unpaid_amount, payout_of, released_of, finish_paid, finish_released}
+use Rattle.root_contract.proofs.Words.{◌≡◌, ℕ, ◌+◌, ◌≤◌, not, Bool, true, false, if◌then◌else◌, List, [], ◌∷◌, ◌++◌, length, map, filter, Option, Some, None, refl, sym, ap, ◌∙◌, arith, option_to_list, option_map, eq-eqb, common_steps, Kept, Slot, amount_at, EXIT_BOND, CHALLENGE_BOND, Movement, moved, share_of, cancel_pays, exit_bonds, Challenge, as_challenge, as_exit, open_bonds, first_open, unpaid_amount, payout_of, released_of, finish_paid, finish_released}
 
 -- ---- shares
 
@@ -45,15 +33,11 @@ amount-own a amount = ap (λ (b : Bool). if b then amount else 0) (eq-eqb a a re
 -- the bond of a challenge that is open, and that of one that is answered
 pub share-open : (challenge : Kept) → challenge.answered ≡ false → (a : ℕ)
     → share_of a (open_bonds (challenge ∷ [])) ≡ amount_at challenge.by CHALLENGE_BOND a
-share-open challenge is a =
-    ap (λ (b : Bool). share_of a (challenge_bonds (if not b then as_challenge challenge ∷ [] else []))) is
-    ∙ share-one a challenge.by CHALLENGE_BOND
+share-open challenge is a = grind (arith, common_steps, share-one) steps 20000
 
 pub share-answered : (challenge : Kept) → challenge.answered ≡ true → (a : ℕ)
     → share_of a (open_bonds (challenge ∷ [])) ≡ 0
-share-answered challenge is a =
-    ap (λ (b : Bool). share_of a (challenge_bonds (if not b then as_challenge challenge ∷ [] else []))) is
-    ∙ share-none a
+share-answered challenge is a = grind (arith, common_steps, share-none) steps 20000
 
 -- of the account of an open challenge so much is held as its bond
 pub share-by : (challenge : Kept) → challenge.answered ≡ false
@@ -63,18 +47,7 @@ share-by challenge is = share-open challenge is challenge.by ∙ amount-own chal
 -- the bonds of a first challenge and of the others
 pub share-first : (a : ℕ) (x : Kept) (xs : List Kept)
     → share_of a (open_bonds (x ∷ xs)) ≡ share_of a (open_bonds (x ∷ [])) + share_of a (open_bonds xs)
-share-first a x xs =
-    by_test (not x.answered) (as_challenge x) (filter (λ challenge. not challenge.answered) (map as_challenge xs))
-  where
-    by_test : (b : Bool) (y : Challenge) (ys : List Challenge)
-        → share_of a (challenge_bonds (if b then y ∷ ys else ys))
-        ≡ share_of a (challenge_bonds (if b then y ∷ [] else [])) + share_of a (challenge_bonds ys)
-    by_test true y ys = omega (
-      arith,
-      share-cons a (moved y.by CHALLENGE_BOND) (challenge_bonds ys),
-      share-one a y.by CHALLENGE_BOND,
-    )
-    by_test false y ys = omega (arith, share-none a)
+share-first a x xs = grind (arith, common_steps, share-cons, share-one, share-none) steps 20000
 
 -- the same of a list that is known to be so cut
 pub share-cut : (rest : List Kept) (x : Kept) (xs : List Kept) → rest ≡ x ∷ xs → (a : ℕ)
@@ -83,8 +56,7 @@ share-cut rest x xs cut a = ap (λ (l : List Kept). share_of a (open_bonds l)) c
 
 -- where no challenge is left, no bond is
 pub share-empty : (rest : List Kept) → length rest ≡ 0 → (a : ℕ) → share_of a (open_bonds rest) ≡ 0
-share-empty [] none a = share-none a
-share-empty (x ∷ xs) none a = absurd (omega arith)
+share-empty rest none a = grind (arith, common_steps, share-none) steps 20000
 
 -- ---- an exit that leaves, by its slot and its slot's challenges
 
@@ -120,29 +92,19 @@ none-open (x ∷ xs) is = grind (arith, is, none-open xs)
 pub share-cancel : (challenger : ℕ) (o : Option Slot) (slot : Slot) (xs : List Kept) → o ≡ Some slot
     → xs ≡ slot.challenges → (a : ℕ) → share_of a (cancel_pays challenger (option_map as_exit o))
     ≡ amount_at challenger EXIT_BOND a + share_of a (open_bonds xs)
-share-cancel challenger o slot xs is same a =
-    ap (λ (o : Option Slot). share_of a (cancel_pays challenger (option_map as_exit o))) is
-    ∙ share-cons a (moved challenger EXIT_BOND) (open_bonds slot.challenges)
-    ∙ ap (λ (l : List Kept). amount_at challenger EXIT_BOND a + share_of a (open_bonds l)) (sym same)
+share-cancel challenger o slot xs is same a = grind (arith, common_steps, share-cons) steps 20000
 
 pub share-bonds : (o : Option Slot) (slot : Slot) (xs : List Kept) → o ≡ Some slot
     → xs ≡ slot.challenges → (a : ℕ) → share_of a (exit_bonds (option_map as_exit o))
     ≡ amount_at slot.owner.account EXIT_BOND a + share_of a (open_bonds xs)
-share-bonds o slot xs is same a =
-    ap (λ (o : Option Slot). share_of a (exit_bonds (option_map as_exit o))) is
-    ∙ share-cons a (moved slot.owner.account EXIT_BOND) (open_bonds slot.challenges)
-    ∙ ap (λ (l : List Kept). amount_at slot.owner.account EXIT_BOND a + share_of a (open_bonds l)) (sym same)
+share-bonds o slot xs is same a = grind (arith, common_steps, share-cons) steps 20000
 
 -- the shares in what a finish pays, and in what it lets go, where a challenge is open
 pub share-paid_open : (unpaid : Option Movement) (o : Option Slot) (slot : Slot) (who : ℕ) (xs : List Kept)
     → o ≡ Some slot → xs ≡ slot.challenges → first_open xs ≡ Some who → (a : ℕ)
     → share_of a (finish_paid unpaid (option_map as_exit o))
     ≡ amount_at who EXIT_BOND a + share_of a (open_bonds xs)
-share-paid_open unpaid o slot who xs is same first a =
-    ap (λ (o : Option Slot). share_of a (finish_paid unpaid (option_map as_exit o))) is
-    ∙ ap (λ (l : List Kept). share_of a (payout_of unpaid slot.owner.account (opens l))) (sym same)
-    ∙ ap (share_of a) (payout-first unpaid slot.owner.account who xs first)
-    ∙ share-cons a (moved who EXIT_BOND) (open_bonds xs)
+share-paid_open unpaid o slot who xs is same first a = grind (arith, common_steps, payout-first, share-cons) steps 20000
 
 pub share-released_open : (unpaid : Option Movement) (o : Option Slot) (slot : Slot) (who : ℕ) (xs : List Kept)
     → o ≡ Some slot → xs ≡ slot.challenges → first_open xs ≡ Some who → (a : ℕ)
@@ -161,22 +123,13 @@ pub share-paid : (unpaid : Option Movement) (o : Option Slot) (slot : Slot) (xs 
     → share_of a (finish_paid unpaid (option_map as_exit o))
     ≡ amount_at slot.owner.account EXIT_BOND a
     + share_of a (moved slot.owner.account (unpaid_amount unpaid) ∷ [])
-share-paid unpaid o slot xs is same none a =
-    ap (λ (o : Option Slot). share_of a (finish_paid unpaid (option_map as_exit o))) is
-    ∙ ap (λ (l : List Challenge). share_of a (payout_of unpaid slot.owner.account l))
-    (ap opens (sym same) ∙ none-open xs none)
-    ∙ share-cons a (moved slot.owner.account EXIT_BOND) (moved slot.owner.account (unpaid_amount unpaid) ∷ [])
+share-paid unpaid o slot xs is same none a = grind (arith, common_steps, none-open, share-cons) steps 20000
 
 pub share-released : (unpaid : Option Movement) (o : Option Slot) (slot : Slot) (xs : List Kept)
     → o ≡ Some slot → xs ≡ slot.challenges → first_open xs ≡ None → (a : ℕ)
     → share_of a (finish_released unpaid (option_map as_exit o))
     ≡ amount_at slot.owner.account EXIT_BOND a + share_of a (option_to_list unpaid)
-share-released unpaid o slot xs is same none a =
-    ap (λ (o : Option Slot). share_of a (finish_released unpaid (option_map as_exit o))) is
-    ∙ ap (λ (l : List Challenge).
-    share_of a (moved slot.owner.account EXIT_BOND ∷ challenge_bonds l ++ released_of unpaid l))
-    (ap opens (sym same) ∙ none-open xs none)
-    ∙ share-cons a (moved slot.owner.account EXIT_BOND) (option_to_list unpaid)
+share-released unpaid o slot xs is same none a = grind (arith, common_steps, none-open, share-cons) steps 20000
 
 -- ---- what is unpaid of a coin
 
@@ -197,10 +150,4 @@ share-paid_up o is a = ap (λ (o : Option Movement). share_of a (option_to_list 
 
 pub share-to_none : (o : Option Movement) (to : ℕ) → o ≡ None → (a : ℕ)
     → share_of a (moved to (unpaid_amount o) ∷ []) ≡ 0
-share-to_none o to is a =
-    share-one a to (unpaid_amount o) ∙ ap (λ (o : Option Movement). amount_at to (unpaid_amount o) a) is
-    ∙ amount-none (to == a)
-  where
-    amount-none : (b : Bool) → cond {A = ℕ} b 0 0 ≡ 0
-    amount-none true = refl
-    amount-none false = refl
+share-to_none o to is a = grind (arith, common_steps, share-one) steps 20000

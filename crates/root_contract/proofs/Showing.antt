@@ -1,10 +1,7 @@
 -- What an opening shows, by whether its block was committed and whether it opens that block's root.
-use Rattle.std.proofs.Common.{◌≡◌, ℕ, true, false, List, Some, None}
-use Rattle.plasma_tx.specs.declared.opening.RawOpening.{RawOpening}
-use Rattle.plasma_tx.specs.declared.call.RootCall.{RootCall}
+use Rattle.root_contract.proofs.Words.{◌≡◌, ℕ, true, false, List, Some, None, RawOpening, RootCall, Tests, Rules, root_at, shown_tx}
 use Rattle.plasma_tx.specs.Openings.{leaf_in}
 use Rattle.plasma_tx.specs.Transfer.{transfer_in}
-use Rattle.plasma_tx.specs.Shown.{Tests, Rules, root_at, shown_tx}
 
 pub show-uncommitted : (tests : Tests) (rules : Rules) (log : List RootCall) (coin : ℕ) (opening : RawOpening)
     → root_at log opening.block ≡ None → shown_tx tests rules log coin opening ≡ None

@@ -1,23 +1,8 @@
 -- The slots of a game against the list of exits that a log says: what is found, added, taken out and changed.
-use Rattle.std.proofs.Common.{◌≡◌, ℕ, ◌==◌, ◌&&◌, ◌||◌, cond, not, Bool, true, false, if◌then◌else◌, List, [], ◌∷◌, ◌++◌, map, Some, None, refl, sym, ap, ◌∙◌, subst, find, filter, arith}
-use Rattle.std.specs.Prelude.{is_some}
-use Rattle.std.specs.List.{list_any, list_all}
-use Rattle.std.specs.Option.{option_map}
-use Rattle.std.proofs.lemmas.Bool.{eqb-true, eq-eqb, and_parts}
+use Rattle.root_contract.proofs.Words.{◌≡◌, ℕ, ◌==◌, ◌&&◌, cond, not, Bool, true, false, if◌then◌else◌, List, [], ◌∷◌, ◌++◌, map, Some, None, refl, sym, ap, ◌∙◌, subst, find, filter, arith, is_some, list_any, list_all, option_map, eqb-true, eq-eqb, and_parts, list_any-append, list_all-map, common_steps, Kept, Slot, Game, kept_at, answered_at, slot_at, without_slot, with_slot_changed, with_challenge, with_answer, IsUnchallengedAt, slots_in, HasSlots, RootCall, StartDeposit, StartSpend, After, Between, Before, Respond, Finish, Challenge, Exit, is_exit, without_exit, with_exit_changed, challenge_at, exit_challenged, with_answer_at, exit_answered, deposit_exit, spend_exit, new_challenge, exits, as_challenge, as_exit, exits_of_coin}
 use Rattle.std.proofs.lemmas.List.{append-nil, map-append, map-id}
 use Rattle.std.proofs.lemmas.List.Elements.{filter-append}
-use Rattle.std.proofs.lemmas.List.Folds.{list_any-append, list_all-map}
 use Rattle.std.proofs.lemmas.Map.Views.{any-filter_same}
-use Rattle.exit_game.specs.declared.challenges.Challenge.{Challenge as Kept}
-use Rattle.exit_game.specs.declared.slot.Slot.{Slot}
-use Rattle.exit_game.specs.declared.game.Game.{Game}
-use Rattle.exit_game.specs.Challenges.{challenge_at as kept_at, answered_at}
-use Rattle.exit_game.specs.Slots.{slot_at, without_slot, with_slot_changed, with_challenge, with_answer, IsUnchallengedAt}
-use Rattle.exit_game.specs.Games.{slots_in, HasSlots}
-use Rattle.plasma_tx.specs.declared.call.RootCall.{RootCall}
-use Rattle.plasma_tx.specs.declared.call.RootCall.TheVariants.{StartDeposit, StartSpend, After, Between, Before, Respond, Finish}
-use Rattle.plasma_tx.specs.Views.{Challenge, Exit, is_exit, without_exit, with_exit_changed, challenge_at, with_challenge as exit_challenged, with_answer_at, with_answer as exit_answered, deposit_exit, spend_exit, new_challenge, exits}
-use Rattle.root_contract.specs.Exits.{as_challenge, as_exit, exits_of_coin}
 
 -- the game has the exits of each coin
 abbrev pub SlotsAre : Game → List Exit → Type 0
@@ -80,15 +65,7 @@ without-none c e (x ∷ xs) none = grind (arith, none, without-none c e xs)
 
 -- an exit of the name has its coin and its block
 pub named : (c e : ℕ) (exit : Exit) → is_exit c e exit ≡ true → (exit.coin ≡ c) × (exit.block ≡ e)
-named c e exit is =
-    let parts = and_parts (exit.coin == c) (exit.block == e) is in
-    (eqb-true exit.coin c parts.0, eqb-true exit.block e parts.1)
-
--- an exit that is found has the name
-pub name-found : (c e : ℕ) (L : List Exit) (exit : Exit) → find (is_exit c e) L ≡ Some exit
-    → (exit.coin ≡ c) × (exit.block ≡ e)
-name-found c e [] exit found = absurd (cc found)
-name-found c e (x ∷ xs) exit found = grind (arith, found, named c e x, name-found c e xs exit)
+named c e exit is = grind (arith, common_steps, and_parts, eqb-true) steps 20000
 
 -- the slot at a block is the exit of that name
 pub found : (c e : ℕ) (S : List Slot) (L : List Exit) → map as_exit S ≡ exits_of_coin c L
@@ -122,9 +99,7 @@ added old new slot L are has =
   where
     at_end : (k : ℕ) (b : Bool) → (slot.coin == k) ≡ b
         → exits_of_coin k (L ++ as_exit slot ∷ []) ≡ exits_of_coin k L ++ cond b (as_exit slot ∷ []) []
-    at_end k b is =
-        filter-append (λ (x : Exit). x.coin == k) L (as_exit slot ∷ [])
-        ∙ ap (λ (t : Bool). exits_of_coin k L ++ cond t (as_exit slot ∷ []) []) is
+    at_end k b is = grind (arith, common_steps, filter-append) steps 20000
 
 -- the slot at a block taken out is the exit of that name taken out
 pub removed : (old new : Game) (c e : ℕ) (L : List Exit) → SlotsAre old L
@@ -151,10 +126,7 @@ pub changed : (old new : Game) (c e : ℕ) (f : Slot → Slot) (g : Exit → Exi
     → HasSlots old new c (with_slot_changed e f (slots_in old c)) → SlotsAre new (with_exit_changed c e g L)
 changed old new c e f g L same coin are has =
     by-coin old new c (with_slot_changed e f (slots_in old c)) L (with_exit_changed c e g L) are has
-    (each (slots_in old c) ∙ ap (map (λ (x : Exit). if x.block == e then g x else x)) (are c)
-    ∙ sym (map-within (λ (x : Exit). x.coin == c) (λ x. if is_exit c e x then g x else x)
-    (λ x. if x.block == e then g x else x) (keeps c)
-    (λ x own. ap (λ (b : Bool). if b && (x.block == e) then g x else x) own) L))
+    (grind (arith, common_steps, each, map-within, keeps) steps 20000)
     (λ k isnt. map-within (λ (x : Exit). x.coin == k) (λ x. if is_exit c e x then g x else x) (λ x. x) (keeps k)
     (λ x own. ap (λ (b : Bool). if b && (x.block == e) then g x else x) (other-coin k c isnt x.coin own)) L
     ∙ map-id (exits_of_coin k L))
@@ -208,10 +180,8 @@ any-changed c e k m g coin block (x ∷ xs) = grind (arith, coin x, block x, any
 pub apart-changed : (c e : ℕ) (g : Exit → Exit) → ((x : Exit) → (g x).coin ≡ x.coin)
     → ((x : Exit) → (g x).block ≡ x.block) → (L : List Exit) → AreApart L → AreApart (with_exit_changed c e g L)
 apart-changed c e g coin block [] apart = tt
-apart-changed c e g coin block (x ∷ xs) apart = (
-  grind (arith, coin x, block x, apart.0, any-changed c e x.coin x.block g coin block xs),
-  apart-changed c e g coin block xs apart.1,
-)
+apart-changed c e g coin block (x ∷ xs) apart =
+    grind (arith, common_steps, apart-changed c e g coin block xs apart.1, any-changed) steps 20000
 
 -- exits stay apart where one is added whose name none has
 pub apart-push : (L : List Exit) (new : Exit) → AreApart L → list_any (is_exit new.coin new.block) L ≡ false
@@ -219,10 +189,7 @@ pub apart-push : (L : List Exit) (new : Exit) → AreApart L → list_any (is_ex
 apart-push [] new apart none = (refl, tt)
 apart-push (x ∷ xs) new apart none =
     let rest : list_any (is_exit new.coin new.block) xs ≡ false = grind (arith, none) in
-    let off : is_exit x.coin x.block new ≡ false = grind (arith, none) in (
-      list_any-append (is_exit x.coin x.block) xs (new ∷ []) ∙ (λ i. apart.0 i || (off i || false)),
-      apart-push xs new apart.1 rest,
-    )
+    grind (arith, common_steps, apart-push xs new apart.1 rest, list_any-append) steps 20000
 
 -- exits stay apart where one is started in place of that of its name
 pub started : (new : Exit) (L : List Exit) → AreApart L → AreApart (without_exit new.coin new.block L ++ new ∷ [])
@@ -261,10 +228,7 @@ pub changed-alike : (c e : ℕ) (f g : Exit → Exit) (L : List Exit) (found : E
     → find (is_exit c e) L ≡ Some found → f found ≡ g found → with_exit_changed c e f L ≡ with_exit_changed c e g L
 changed-alike c e f g [] found apart is same = refl
 changed-alike c e f g (x ∷ xs) found apart is same =
-    let none : is_exit c e x ≡ true → list_any (is_exit c e) xs ≡ false = λ own.
-    let name = named c e x own in (λ i. list_any (is_exit (sym name.0 i) (sym name.1 i)) xs) ∙ apart.0 in
-    let rest = changed-alike c e f g xs found apart.1 in
-    grind (arith, is, same, none, rest, changed-none c e f xs, changed-none c e g xs)
+    grind (arith, common_steps, changed-alike c e f g xs found apart.1, named, found, changed-none) steps 20000
 
 -- a challenge of the slot at a block, which has none there, is one of the exit of that name
 pub challenged : (old new : Game) (c e : ℕ) (kept : Kept) (L : List Exit) → AreApart L → SlotsAre old L

@@ -1,27 +1,8 @@
 -- The slots of a contract's game are the exits that stand by its log.
-use Rattle.std.proofs.Common.{◌≡◌, ℕ, ◌==◌, ◌≤◌, false, List, [], ◌∷◌, ◌++◌, map, Option, Some, None, refl, sym, ap, ◌∙◌, subst, inl, inr, find, arith, rules, Bor}
-use Rattle.std.specs.Prelude.{IsSome, IfSome}
-use Rattle.std.specs.List.{AllByRecursion}
-use Rattle.std.specs.Option.{option_map, option_copied}
-use Rattle.std.proofs.lemmas.Bool.{cases_eq, eq-eqb, ne_eqb}
-use Rattle.std.proofs.lemmas.List.Folds.{find-append}
-use Rattle.exit_game.specs.declared.challenges.Challenge.{Challenge as Kept}
-use Rattle.exit_game.specs.declared.slot.Slot.{Slot}
-use Rattle.exit_game.specs.declared.game.Game.{Game}
-use Rattle.exit_game.specs.Challenges.{challenge_at as kept_at}
-use Rattle.exit_game.specs.Slots.{slot_at, without_slot, with_slot_changed, with_challenge, without_last, IsUnchallengedAt, IsOpenAt}
-use Rattle.exit_game.specs.Games.{slots_in, HasSlots}
+use Rattle.root_contract.proofs.Words.{◌≡◌, ℕ, ◌≤◌, false, List, [], ◌∷◌, ◌++◌, map, Option, Some, None, refl, sym, ap, ◌∙◌, subst, find, arith, Bor, IsSome, IfSome, AllByRecursion, option_map, option_copied, cases_eq, eq-eqb, ne_eqb, find-append, common_steps, Kept, Slot, Game, kept_at, slot_at, without_slot, with_slot_changed, with_challenge, without_last, IsUnchallengedAt, IsOpenAt, slots_in, HasSlots, Ledger, Chain, now, Exit, Challenge, is_exit, exits, exit_at, LAST_TIME, rules_of, times_are_bounded, as_exit, as_challenge, IsDated, IsUnchallenged, IsOpen, Agrees}
 use Rattle.exit_game.proofs.TakenBack.{last_is_taken_back}
-use Rattle.bond_ledger.specs.declared.ledger.Ledger.{Ledger}
-use Rattle.plasma_tx.specs.Chain.{Chain}
-use Rattle.plasma_tx.specs.Views.{now, Exit, Challenge, is_exit, exits, exit_at}
-use Rattle.plasma_tx.specs.declared.rules.TheConstants.{LAST_TIME}
-use Rattle.plasma_tx.specs.Shown.{rules_of}
 use Rattle.plasma_tx.specs.RuleLaws.{IsDatedBy}
-use Rattle.plasma_tx.proofs.Bounds.{times_are_bounded}
 use Rattle.plasma_tx.proofs.Each.{some_same, all-found}
-use Rattle.root_contract.specs.Exits.{as_exit, as_challenge, IsDated, IsUnchallenged, IsOpen}
-use Rattle.root_contract.specs.Agreement.{Agrees}
 use Rattle.root_contract.proofs.SlotLemmas.{found, challenge-found}
 
 -- the slot of a name is the exit of that name
@@ -31,16 +12,13 @@ unfolding exit_at
 slot-is chain game ledger c e agrees = found c e (slots_in game c) (exits chain.log) (agrees.slots_are c)
 
 no_slot : (slot : Option Slot) (exit : Option Exit) → option_map as_exit slot ≡ exit → exit ≡ None → slot ≡ None
-no_slot None exit is none = refl
-no_slot (Some slot) exit is none = absurd (cc)
+no_slot slot exit is none = grind (arith, common_steps) steps 20000
 
 some_slot : (slot : Option Slot) (exit : Option Exit) → option_map as_exit slot ≡ exit → IsSome exit → IsSome slot
-some_slot None exit is some = subst (λ (x : Option Exit). IsSome x) (sym is) some
-some_slot (Some slot) exit is some = search rules
+some_slot slot exit is some = grind (arith, common_steps) steps 20000
 
 no_kept : (found : Option Kept) → option_map as_challenge found ≡ None → found ≡ None
-no_kept None none = refl
-no_kept (Some kept) none = absurd (cc)
+no_kept found none = grind (arith, common_steps) steps 20000
 
 pub none-slot : (chain : Chain) (game : Game) (ledger : Ledger) (c e : ℕ) → Agrees chain game ledger
     → exit_at chain.log c e ≡ None → slot_at e (slots_in game c) ≡ None
@@ -55,25 +33,12 @@ stands-slot chain game ledger c e agrees stands =
 -- a slot that was added is there
 pub added-there : (slots : List Slot) (slot : Slot) → slot_at slot.block slots ≡ None
     → IsSome (slot_at slot.block (slots ++ slot ∷ []))
-added-there slots slot none =
-    grind (
-      arith,
-      find-append {X = Slot} (λ (x : Slot). x.block == slot.block) slots (slot ∷ []),
-      none,
-      eq-eqb slot.block
-          slot.block refl,
-    )
+added-there slots slot none = grind (arith, common_steps, find-append, eq-eqb) steps 20000
 
 without-added : (slots : List Slot) (slot : Slot) → slot_at slot.block slots ≡ None
     → without_slot slot.block (slots ++ slot ∷ []) ≡ slots
 without-added [] slot none = simp (eq-eqb slot.block slot.block refl)
-without-added (first ∷ slots) slot none = grind (
-  arith,
-  none,
-  eq-eqb slot.block slot.block refl,
-  without-added
-      slots slot,
-)
+without-added (first ∷ slots) slot none = grind (arith, common_steps, without-added slots slot, eq-eqb) steps 20000
 
 -- the own coin's slots
 pub own : (old new : Game) (c : ℕ) (slots : List Slot) → HasSlots old new c slots → slots_in new c ≡ slots
@@ -85,12 +50,7 @@ pub start-taken-back : (old mid new : Game) (slot : Slot) → slot_at slot.block
     → HasSlots mid new slot.coin (without_slot slot.block (slots_in mid slot.coin))
     → (k : ℕ) → slots_in new k ≡ slots_in old k
 start-taken-back old mid new slot none started ended k =
-    elim (cases_eq k slot.coin) [
-      | inl same ↦ simp (eq-eqb k slot.coin same) at (ended k)
-          ∙ ap (without_slot slot.block) (own old mid slot.coin _ started)
-          ∙ without-added (slots_in old slot.coin) slot none ∙ ap (slots_in old) (sym same)
-      | inr other ↦ simp (ne_eqb k slot.coin other) at (ended k) ∙ simp (ne_eqb k slot.coin other) at (started k)
-    ]
+    grind (arith, common_steps, cases_eq, eq-eqb, own, without-added, ne_eqb) steps 20000
 
 -- ---- challenges
 
@@ -108,10 +68,7 @@ unchallenged-slot chain game ledger c e b agrees none =
 
 open_kept : (found : Option Kept) (challenge : Challenge) → option_map as_challenge found ≡ Some challenge
     → challenge.answered ≡ false → (kept : Kept) × (found ≡ Some kept) × (kept.answered ≡ false)
-open_kept None challenge is open_still = absurd (cc)
-open_kept (Some kept) challenge is open_still =
-    let same : as_challenge kept ≡ challenge = some_same (as_challenge kept) challenge is in
-    (kept, refl, ap (λ (x : Challenge). x.answered) same ∙ open_still)
+open_kept found challenge is open_still = grind (arith, common_steps, some_same) steps 20000
 
 open_slot : (b : ℕ) (slot : Option Slot) (exit : Option Exit) → option_map as_exit slot ≡ exit → IsOpen b exit
     → IsOpenAt b slot
@@ -137,12 +94,7 @@ pub challenge-taken-back : (old mid new : Game) (c e : ℕ) (kept : Kept)
     → HasSlots mid new c (with_slot_changed e without_last (slots_in mid c))
     → (k : ℕ) → slots_in new k ≡ slots_in old k
 challenge-taken-back old mid new c e kept begun ended k =
-    elim (cases_eq k c) [
-      | inl same ↦ simp (eq-eqb k c same) at (ended k)
-          ∙ ap (with_slot_changed e without_last) (own old mid c _ begun)
-          ∙ last_is_taken_back (slots_in old c) e kept ∙ ap (slots_in old) (sym same)
-      | inr other ↦ simp (ne_eqb k c other) at (ended k) ∙ simp (ne_eqb k c other) at (begun k)
-    ]
+    grind (arith, common_steps, cases_eq, eq-eqb, own, last_is_taken_back, ne_eqb) steps 20000
 
 -- ---- times
 
@@ -173,9 +125,7 @@ slot-dated chain game ledger c e agrees result is =
 found_dated : (b : ℕ) (xs : List Kept) (found : Option Kept) → AllByRecursion (λ
     (kept : Kept). kept.at ≤ LAST_TIME) xs
     → found ≡ kept_at b xs → IfSome found (λ kept. kept.at ≤ LAST_TIME)
-found_dated b xs None all is = tt
-found_dated b xs (Some kept) all is =
-    (all-found (λ (kept : Kept). kept.at ≤ LAST_TIME) (λ (kept : Kept). kept.block == b) xs kept all (sym is)).0
+found_dated b xs found all is = grind (arith, common_steps, all-found) steps 20000
 
 -- no time of a challenge of a slot is past it
 pub challenge-dated : (slot : Slot) (b : ℕ) → IsDated slot → (found : Option Kept) → found ≡ kept_at b slot.challenges

@@ -1,8 +1,4 @@
-use Rattle.std.proofs.Common.{refl, ◌∙◌, arith}
-use Rattle.exit_game.specs.Slots.{slot_at}
-use Rattle.exit_game.specs.Games.{slots_in}
-use Rattle.plasma_tx.specs.declared.rules.TheConstants.{EXIT_BOND}
-use Rattle.bond_ledger.proofs.Known.{held_is_of_known}
+use Rattle.root_contract.proofs.Words.{refl, ◌∙◌, arith, slot_at, slots_in, EXIT_BOND, held_is_of_known}
 use Rattle.root_contract.proofs.SettlingLemmas.{amount-own, share-bonds, share-cancel}
 use Rattle.root_contract.proofs.settling.cancel_exit.Goals as goal
 

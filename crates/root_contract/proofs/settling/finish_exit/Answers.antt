@@ -1,8 +1,4 @@
-use Rattle.std.proofs.Common.{sym, ◌∙◌, arith}
-use Rattle.exit_game.specs.Slots.{slot_at}
-use Rattle.exit_game.specs.Games.{slots_in}
-use Rattle.plasma_tx.specs.declared.rules.TheConstants.{EXIT_BOND}
-use Rattle.bond_ledger.proofs.Known.{held_is_of_known}
+use Rattle.root_contract.proofs.Words.{sym, ◌∙◌, arith, slot_at, slots_in, EXIT_BOND, held_is_of_known}
 use Rattle.root_contract.proofs.SettlingLemmas.{amount-own, share-first_open, share-paid_open, share-released_open, share-paid, share-released}
 use Rattle.root_contract.proofs.settling.finish_exit.Goals as goal
 

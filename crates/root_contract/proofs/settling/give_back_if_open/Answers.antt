@@ -1,5 +1,4 @@
-use Rattle.std.proofs.Common.{refl, arith}
-use Rattle.bond_ledger.proofs.Known.{held_is_of_known}
+use Rattle.root_contract.proofs.Words.{refl, arith, held_is_of_known}
 use Rattle.root_contract.proofs.SettlingLemmas.{share-open, share-answered, share-by}
 use Rattle.root_contract.proofs.settling.give_back_if_open.Goals as goal
 

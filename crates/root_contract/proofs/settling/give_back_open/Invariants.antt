@@ -1,7 +1,4 @@
-use Rattle.std.proofs.Common.{◌≡◌, ℕ, ◌+◌, length}
-use Rattle.bond_ledger.specs.Ledger.{balance_in, held_in, funded_in, is_known}
-use Rattle.plasma_tx.specs.Money.{share_of}
-use Rattle.root_contract.specs.Settling.{open_bonds}
+use Rattle.root_contract.proofs.Words.{◌≡◌, ℕ, ◌+◌, length, balance_in, held_in, funded_in, is_known, share_of, open_bonds}
 use Rattle.root_contract.proofs.settling.give_back_open.Given as goal
 
 -- what is paid and let go so far, and what is to be paid and let go yet, are together what is at last

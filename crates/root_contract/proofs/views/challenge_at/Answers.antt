@@ -1,6 +1,4 @@
-use Rattle.std.proofs.Common.{◌∙◌, ap}
-use Rattle.std.specs.Option.{option_map}
-use Rattle.root_contract.specs.Exits.{as_challenge}
+use Rattle.root_contract.proofs.Words.{◌∙◌, ap, option_map, as_challenge}
 use Rattle.root_contract.proofs.SlotLemmas.{challenge-found}
 use Rattle.root_contract.proofs.Standing.{challenge-dated}
 use Rattle.root_contract.proofs.views.challenge_at.Goals as goal

@@ -1,11 +1,4 @@
-use Rattle.std.proofs.Common.{◌+◌, ◌∙◌, false, sym, refl, ap}
-use Rattle.plasma_tx.specs.declared.owner.Owner.{Owner}
-use Rattle.plasma_tx.specs.declared.answer.Answer.TheVariants.{Challenged}
-use Rattle.plasma_tx.specs.declared.call.RootCall.TheVariants.{Before}
-use Rattle.plasma_tx.specs.Views.{now}
-use Rattle.plasma_tx.specs.declared.rules.TheConstants.{RESPONSE_WINDOW}
-use Rattle.plasma_tx.specs.Shown.{tests_by}
-use Rattle.plasma_tx.specs.Table.{answer_to}
+use Rattle.root_contract.proofs.Words.{◌+◌, ◌∙◌, false, sym, refl, ap, Owner, Challenged, Before, now, RESPONSE_WINDOW, tests_by, answer_to}
 use Rattle.root_contract.proofs.Called.{takes-stopped, takes-unheld, accepted, before-none, before-changes}
 use Rattle.root_contract.proofs.contract.Contract.before.Goals as goal
 

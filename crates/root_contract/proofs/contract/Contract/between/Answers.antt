@@ -1,9 +1,4 @@
-use Rattle.std.proofs.Common.{sym, refl}
-use Rattle.plasma_tx.specs.declared.answer.Answer.TheVariants.{Cancelled}
-use Rattle.plasma_tx.specs.declared.call.RootCall.TheVariants.{Between}
-use Rattle.plasma_tx.specs.Shown.{tests_by}
-use Rattle.plasma_tx.specs.Table.{answer_to}
-use Rattle.plasma_tx.specs.declared.owner.Owner.{Owner}
+use Rattle.root_contract.proofs.Words.{sym, refl, Cancelled, Between, tests_by, answer_to, Owner}
 use Rattle.root_contract.proofs.Called.{takes-stopped, takes-unheld, accepted, between-changes}
 use Rattle.root_contract.proofs.contract.Contract.between.Goals as goal
 

@@ -1,6 +1,4 @@
-use Rattle.std.proofs.Common.{arith}
-use Rattle.plasma_tx.specs.Shown.{rules_of}
-use Rattle.plasma_tx.proofs.Bounds.{times_are_bounded}
+use Rattle.root_contract.proofs.Words.{arith, rules_of, times_are_bounded}
 use Rattle.root_contract.proofs.contract.Contract.clock.Goals as goal
 
 pub returns-clause-limit : goal.returns-clause-limit

@@ -1,8 +1,4 @@
-use Rattle.std.proofs.Common.{◌+◌, ◌∙◌, sym, refl, ap, Err}
-use Rattle.plasma_tx.specs.declared.answer.Answer.TheVariants.{Committed}
-use Rattle.plasma_tx.specs.declared.call.RootCall.TheVariants.{Commit}
-use Rattle.plasma_tx.specs.Views.{blocks}
-use Rattle.plasma_tx.specs.Table.{answer_to}
+use Rattle.root_contract.proofs.Words.{◌+◌, ◌∙◌, sym, refl, ap, Err, Committed, Commit, blocks, answer_to}
 use Rattle.root_contract.proofs.Called.{no_tests, takes-stopped, takes-unheld, accepted-may, accepted, commit-changes}
 use Rattle.root_contract.proofs.contract.Contract.commit.Goals as goal
 

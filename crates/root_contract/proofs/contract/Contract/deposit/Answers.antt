@@ -1,8 +1,4 @@
-use Rattle.std.proofs.Common.{◌+◌, ◌∙◌, sym, refl, Err, ap}
-use Rattle.plasma_tx.specs.declared.answer.Answer.TheVariants.{Deposited}
-use Rattle.plasma_tx.specs.declared.call.RootCall.TheVariants.{Deposit}
-use Rattle.plasma_tx.specs.Views.{blocks, coins}
-use Rattle.plasma_tx.specs.Table.{answer_to}
+use Rattle.root_contract.proofs.Words.{◌+◌, ◌∙◌, sym, refl, Err, ap, Deposited, Deposit, blocks, coins, answer_to}
 use Rattle.root_contract.proofs.Called.{no_tests, takes-stopped, takes-unheld, accepted-may, accepted, deposit-changes}
 use Rattle.root_contract.proofs.contract.Contract.deposit.Goals as goal
 

@@ -1,7 +1,4 @@
-use Rattle.std.proofs.Common.{sym, Err, ap, ◌∙◌}
-use Rattle.plasma_tx.specs.declared.answer.Answer.{Answer}
-use Rattle.plasma_tx.specs.declared.call.RootCall.TheVariants.{Finish}
-use Rattle.plasma_tx.specs.Table.{answer_to}
+use Rattle.root_contract.proofs.Words.{sym, Err, ap, ◌∙◌, Answer, Finish, answer_to}
 use Rattle.root_contract.proofs.Called.{no_tests, takes-stopped, takes-unheld, accepted-may, accepted, finish-stands, finish-changes}
 use Rattle.root_contract.proofs.contract.Contract.finish.Goals as goal
 

@@ -1,5 +1,4 @@
-use Rattle.std.proofs.Common.{◌+◌, ◌∷◌, [], ◌∙◌, ap}
-use Rattle.plasma_tx.specs.Money.{moved, share_of}
+use Rattle.root_contract.proofs.Words.{◌+◌, ◌∷◌, [], ◌∙◌, ap, moved, share_of}
 use Rattle.root_contract.proofs.Agreeing.{kept-fund, fund-fits}
 use Rattle.root_contract.proofs.contract.Contract.fund_account.Goals as goal
 

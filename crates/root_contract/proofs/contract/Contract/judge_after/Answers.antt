@@ -1,7 +1,4 @@
-use Rattle.std.proofs.Common.{◌∙◌, sym}
-use Rattle.plasma_tx.specs.declared.answer.Answer.TheVariants.{Cancelled}
-use Rattle.plasma_tx.specs.Shown.{tests_by}
-use Rattle.root_contract.specs.Exits.{as_exit}
+use Rattle.root_contract.proofs.Words.{◌∙◌, sym, Cancelled, tests_by, as_exit}
 use Rattle.root_contract.proofs.Judged.{after-judged}
 use Rattle.root_contract.proofs.contract.Contract.judge_after.Goals as goal
 

@@ -1,6 +1,4 @@
-use Rattle.std.proofs.Common.{◌∙◌, sym}
-use Rattle.plasma_tx.specs.Shown.{tests_by, rules_of}
-use Rattle.plasma_tx.proofs.Accepted.{owners_are_read}
+use Rattle.root_contract.proofs.Words.{◌∙◌, sym, tests_by, rules_of, owners_are_read}
 use Rattle.root_contract.proofs.contract.Contract.judge_before.Goals as goal
 
 pub returns-clause-owner : goal.returns-clause-owner

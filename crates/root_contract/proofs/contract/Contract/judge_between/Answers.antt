@@ -1,8 +1,4 @@
-use Rattle.std.proofs.Common.{◌∙◌, sym}
-use Rattle.std.proofs.lemmas.Bool.{ne_eqb}
-use Rattle.plasma_tx.specs.declared.answer.Answer.TheVariants.{Cancelled}
-use Rattle.plasma_tx.specs.Shown.{tests_by}
-use Rattle.root_contract.specs.Exits.{as_exit}
+use Rattle.root_contract.proofs.Words.{◌∙◌, sym, ne_eqb, Cancelled, tests_by, as_exit}
 use Rattle.root_contract.proofs.Judged.{between-judged}
 use Rattle.root_contract.proofs.contract.Contract.judge_between.Goals as goal
 

@@ -1,9 +1,4 @@
-use Rattle.std.proofs.Common.{ℕ, ◌∙◌, sym}
-use Rattle.std.proofs.lemmas.Bool.{le-leb}
-use Rattle.plasma_tx.specs.declared.answer.Answer.TheVariants.{Responded}
-use Rattle.plasma_tx.specs.declared.owner.Owner.{Owner}
-use Rattle.plasma_tx.specs.Shown.{tests_by}
-use Rattle.root_contract.specs.Exits.{as_exit, as_challenge}
+use Rattle.root_contract.proofs.Words.{ℕ, ◌∙◌, sym, le-leb, Responded, Owner, tests_by, as_exit, as_challenge}
 use Rattle.root_contract.proofs.Judged.{respond-judged}
 use Rattle.root_contract.proofs.contract.Contract.judge_respond.Goals as goal
 

@@ -1,9 +1,5 @@
-use Rattle.std.proofs.Common.{◌∙◌, sym}
-use Rattle.plasma_tx.specs.declared.owner.Owner.{Owner}
+use Rattle.root_contract.proofs.Words.{◌∙◌, sym, Owner, tests_by, rules_of, owners_are_read, Owners}
 use Rattle.plasma_tx.specs.declared.call.Shown.TheVariants.{Spend}
-use Rattle.plasma_tx.specs.Shown.{tests_by, rules_of}
-use Rattle.plasma_tx.proofs.Accepted.{owners_are_read}
-use Rattle.root_contract.specs.declared.judging.Owners.{Owners}
 use Rattle.root_contract.proofs.Judged.{start-judged}
 use Rattle.root_contract.proofs.contract.Contract.judge_start_spend.Goals as goal
 

@@ -1,8 +1,4 @@
-use Rattle.std.proofs.Common.{ℕ, sym, refl}
-use Rattle.plasma_tx.specs.declared.answer.Answer.TheVariants.{Responded}
-use Rattle.plasma_tx.specs.declared.call.RootCall.TheVariants.{Respond}
-use Rattle.plasma_tx.specs.Shown.{tests_by}
-use Rattle.plasma_tx.specs.Table.{answer_to}
+use Rattle.root_contract.proofs.Words.{ℕ, sym, refl, Responded, Respond, tests_by, answer_to}
 use Rattle.root_contract.proofs.Called.{takes-stopped, takes-unheld, accepted, respond-open, respond-changes}
 use Rattle.root_contract.proofs.contract.Contract.respond.Goals as goal
 

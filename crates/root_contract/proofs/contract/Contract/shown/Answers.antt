@@ -1,5 +1,4 @@
-use Rattle.std.proofs.Common.{sym, ◌∙◌}
-use Rattle.plasma_tx.specs.Shown.{tests_by, rules_of}
+use Rattle.root_contract.proofs.Words.{sym, ◌∙◌, tests_by, rules_of}
 use Rattle.root_contract.proofs.Showing.{show-uncommitted, show-unopened, show-opened}
 use Rattle.root_contract.proofs.contract.Contract.shown.Goals as goal
 

@@ -1,10 +1,4 @@
-use Rattle.std.proofs.Common.{◌+◌, ◌∙◌, sym, refl, ap, Err}
-use Rattle.plasma_tx.specs.declared.owner.Owner.{Owner}
-use Rattle.plasma_tx.specs.declared.answer.Answer.TheVariants.{Started}
-use Rattle.plasma_tx.specs.declared.call.RootCall.TheVariants.{StartDeposit}
-use Rattle.plasma_tx.specs.Views.{now}
-use Rattle.plasma_tx.specs.declared.rules.TheConstants.{EXIT_PERIOD}
-use Rattle.plasma_tx.specs.Table.{answer_to}
+use Rattle.root_contract.proofs.Words.{◌+◌, ◌∙◌, sym, refl, ap, Err, Owner, Started, StartDeposit, now, EXIT_PERIOD, answer_to}
 use Rattle.root_contract.proofs.Called.{no_tests, takes-stopped, takes-unheld, accepted-may, accepted, start_deposit-changes}
 use Rattle.root_contract.proofs.contract.Contract.start_deposit.Goals as goal
 

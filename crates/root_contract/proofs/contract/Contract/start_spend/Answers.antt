@@ -1,11 +1,4 @@
-use Rattle.std.proofs.Common.{◌+◌, ◌∙◌, sym, refl, ap}
-use Rattle.plasma_tx.specs.declared.answer.Answer.TheVariants.{Started}
-use Rattle.plasma_tx.specs.declared.call.RootCall.TheVariants.{StartSpend}
-use Rattle.plasma_tx.specs.Views.{now}
-use Rattle.plasma_tx.specs.declared.rules.TheConstants.{EXIT_PERIOD}
-use Rattle.plasma_tx.specs.Shown.{tests_by}
-use Rattle.plasma_tx.specs.Table.{answer_to}
-use Rattle.root_contract.specs.declared.judging.Owners.{Owners}
+use Rattle.root_contract.proofs.Words.{◌+◌, ◌∙◌, sym, refl, ap, Started, StartSpend, now, EXIT_PERIOD, tests_by, answer_to, Owners}
 use Rattle.root_contract.proofs.Called.{takes-stopped, takes-unheld, accepted, start_spend-changes}
 use Rattle.root_contract.proofs.contract.Contract.start_spend.Goals as goal
 

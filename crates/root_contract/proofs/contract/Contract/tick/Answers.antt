@@ -1,7 +1,4 @@
-use Rattle.std.proofs.Common.{sym, refl, Err, ap, ◌∙◌}
-use Rattle.plasma_tx.specs.declared.answer.Answer.TheVariants.{Ticked}
-use Rattle.plasma_tx.specs.declared.call.RootCall.TheVariants.{Tick}
-use Rattle.plasma_tx.specs.Table.{answer_to}
+use Rattle.root_contract.proofs.Words.{sym, refl, Err, ap, ◌∙◌, Ticked, Tick, answer_to}
 use Rattle.root_contract.proofs.Called.{no_tests, takes-stopped, takes-unheld, accepted-may, accepted, tick-changes}
 use Rattle.root_contract.proofs.contract.Contract.tick.Goals as goal
 
