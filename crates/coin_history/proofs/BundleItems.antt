@@ -1,17 +1,5 @@
 -- The items of a bundle's bytes, one after another, and what is written of a bundle.
-use Rattle.std.proofs.Common.{◌≡◌, ℕ, suc, ◌+◌, ◌-◌, ◌<◌, ◌≤◌, List, [], ◌∷◌, ◌++◌, Option, Ok, Err, length, get_or, take, drop, refl, sym, ap, ◌∙◌, inl, inr, arith}
-use Rattle.std.specs.Prelude.{◌⊎◌, true, is_ok, Result}
-use Rattle.std.specs.List.{slice_range, flat_map}
-use Rattle.std.specs.Option.{option_map_or}
-use Rattle.std.proofs.lemmas.Bool.{lt-ltb, le-ltb}
-use Rattle.std.proofs.lemmas.List.{take_at, take_more, take-append-drop, flat_map_more}
-use Rattle.std.proofs.lemmas.Grind.{common_steps}
-use Rattle.plasma_tx.specs.Spelling.{number_text, number_at}
-use Rattle.plasma_tx.specs.declared.opening.RawOpening.{RawOpening}
-use Rattle.coin_history.specs.declared.bundle.Bundle.{Bundle}
-use Rattle.coin_history.specs.declared.refusal.HistoryRefusal.{HistoryRefusal}
-use Rattle.coin_history.specs.declared.refusal.HistoryRefusal.TheVariants.{BadBundle}
-use Rattle.coin_history.specs.Bundles.{length_text, length_at, item_text, bundle_text, Items, with_item, items_in}
+use Rattle.coin_history.proofs.Words.{◌≡◌, ℕ, suc, ◌+◌, ◌-◌, ◌<◌, ◌≤◌, List, [], ◌∷◌, ◌++◌, Option, Ok, Err, length, get_or, take, drop, refl, sym, ap, ◌∙◌, inl, inr, arith, ◌⊎◌, true, is_ok, Result, slice_range, flat_map, option_map_or, lt-ltb, le-ltb, take_at, take_more, take-append-drop, flat_map_more, common_steps, number_text, number_at, RawOpening, Bundle, HistoryRefusal, BadBundle, length_text, length_at, item_text, bundle_text, Items, with_item, items_in}
 
 -- ---- the first of some items
 
@@ -78,10 +66,6 @@ low_of before = option_map_or (λ block. block + 1) before 0
 abbrev pub with_items : List RawOpening → Result Items HistoryRefusal → Result Items HistoryRefusal
 with_items openings (Err why) = Err why
 with_items openings (Ok items) = Ok (record items { openings = openings ++ items.openings })
-
-with_items-nil : (read : Result Items HistoryRefusal) → read ≡ with_items [] read
-with_items-nil (Err why) = refl
-with_items-nil (Ok items) = refl
 
 with_items-with_item : (openings : List RawOpening) (opening : RawOpening) (read : Result Items HistoryRefusal)
     → with_items openings (with_item opening read) ≡ with_items (openings ++ opening ∷ []) read

@@ -1,19 +1,7 @@
 -- Bundles are read as they are written, and have one spelling.
-use Rattle.std.proofs.Common.{◌≡◌, ℕ, zero, suc, ◌+◌, ◌-◌, ◌^◌, ◌<◌, ◌≤◌, ◌==◌, List, [], ◌∷◌, ◌++◌, Ok, Err, length, get_or, take, drop, refl, sym, ap, ◌∙◌, inl, inr, append_assoc, append-nil, arith}
-use Rattle.std.specs.Prelude.{Result}
-use Rattle.std.specs.List.{All, slice_range, flat_map}
-use Rattle.std.proofs.lemmas.Bool.{cases_Bool, cases_lt, lt-ltb, le-ltb, eq-eqb, eqb-true}
-use Rattle.std.proofs.lemmas.List.{take_at, drop_at, take-append-drop, drop-drop, length-drop, length-append, drop_all}
-use Rattle.std.proofs.lemmas.List.Elements.{All-cons, All-head, All-tail}
+use Rattle.coin_history.proofs.Words.{◌≡◌, ℕ, zero, suc, ◌+◌, ◌-◌, ◌^◌, ◌<◌, ◌≤◌, ◌==◌, List, [], ◌∷◌, ◌++◌, Ok, Err, length, get_or, take, drop, refl, sym, ap, ◌∙◌, inl, inr, append_assoc, append-nil, arith, Result, All, slice_range, flat_map, cases_Bool, cases_lt, lt-ltb, le-ltb, eq-eqb, eqb-true, take_at, drop_at, take-append-drop, drop-drop, length-drop, length-append, drop_all, All-cons, All-head, All-tail, common_steps, number_text, number_at, AreBytes, RawOpening, Bundle, HistoryRefusal, BadBundle, length_text, length_at, item_text, bundle_text, Items, with_item, items_in, bundle_of, bundle_in, AreRising, IsBundle}
 use Rattle.std.proofs.lemmas.Nat.{from_be_bytes-to_be_bytes_4}
-use Rattle.std.proofs.lemmas.Grind.{common_steps}
 use Rattle.plasma_tx.proofs.Parts.{number-in, number-below, number-bytes, short_number-below, short_number-bytes, bytes-range, length-range}
-use Rattle.plasma_tx.specs.Spelling.{number_text, number_at, AreBytes}
-use Rattle.plasma_tx.specs.declared.opening.RawOpening.{RawOpening}
-use Rattle.coin_history.specs.declared.bundle.Bundle.{Bundle}
-use Rattle.coin_history.specs.declared.refusal.HistoryRefusal.{HistoryRefusal}
-use Rattle.coin_history.specs.declared.refusal.HistoryRefusal.TheVariants.{BadBundle}
-use Rattle.coin_history.specs.Bundles.{length_text, length_at, item_text, bundle_text, Items, with_item, items_in, bundle_of, bundle_in, AreRising, IsBundle}
 use Rattle.coin_history.proofs.BundleItems.{first-no_block, first-fallen, first-no_length, first-no_bytes, first-item, items_in-none}
 
 -- ---- fields at a place

@@ -1,17 +1,6 @@
 -- An absence, opening by opening.
-use Rattle.std.proofs.Common.{◌≡◌, ℕ, ◌+◌, ◌<◌, ◌≤◌, ◌==◌, not, Bool, true, false, if◌then◌else◌, List, length, get_or, drop, Some, None, Ok, Err, refl, sym, subst, arith}
-use Rattle.std.specs.Prelude.{Result}
-use Rattle.std.proofs.lemmas.Grind.{common_steps}
-use Rattle.plasma_tx.specs.declared.call.RootCall.{RootCall}
-use Rattle.plasma_tx.specs.declared.opening.RawOpening.{RawOpening}
-use Rattle.plasma_tx.specs.Shown.{Tests}
-use Rattle.coin_history.specs.History.{leaf_of_opening}
-use Rattle.coin_history.specs.declared.refusal.HistoryRefusal.{HistoryRefusal}
-use Rattle.coin_history.specs.declared.refusal.HistoryRefusal.TheVariants.{MissingBlock, NotAbsent}
-use Rattle.coin_history.specs.Bundles.{AreRising}
-use Rattle.coin_history.specs.Checking.{first_cause, is_asked, opening_at, lowest_failure, above, unless_failed, opening_causes, failure_of_absence, IsLookedAt}
-use Rattle.coin_history.specs.Inside.{NoneIsAsked, IsFirstAsked}
-use Rattle.coin_history.proofs.CheckFacts.{Passed, first-here, first-later, failed-none, failed-some, absent-from, missing-next, failing-next, holding-next, looked-at, missing-last, holding-last, passed-start, asked-high}
+use Rattle.coin_history.proofs.Words.{◌≡◌, ℕ, ◌+◌, ◌<◌, ◌≤◌, ◌==◌, not, Bool, true, false, if◌then◌else◌, List, length, get_or, drop, Some, None, Ok, Err, refl, sym, subst, arith, Result, common_steps, RootCall, RawOpening, Tests, leaf_of_opening, HistoryRefusal, MissingBlock, NotAbsent, AreRising, first_cause, is_asked, opening_at, lowest_failure, above, unless_failed, opening_causes, failure_of_absence, IsLookedAt, NoneIsAsked, IsFirstAsked}
+use Rattle.coin_history.proofs.CheckFacts.{Passed, IsAt, first-here, first-later, failed-none, failed-some, absent-from, missing-next, failing-next, holding-next, looked-at, missing-last, holding-last, passed-start, asked-high}
 
 -- what is answered of a bundle whose tip is the last block
 abbrev pub absence_by : Tests → List RootCall → ℕ → ℕ → ℕ → List RawOpening → Result Unit HistoryRefusal
@@ -36,43 +25,6 @@ cleared-start tests log coin after last openings items rising same = record {
       rising);
 }
 
--- a block before the next opening is asked
-pub cleared-missing : {tests : Tests} {log : List RootCall} {coin after last : ℕ} {openings items : List RawOpening}
-    {i number : ℕ} → Cleared tests log coin after last openings items i number
-    → (o : RawOpening) → i < length items → o ≡ get_or items i o
-    → (n : ℕ) → IsFirstAsked (is_asked log after last) number o.block n
-    → absence_by tests log coin after last openings ≡ Err (MissingBlock n)
-cleared-missing {tests} {log} {coin} {after} {last} {openings} {items} {i} {number} cleared o inside is n first =
-    missing-next (failure_of_absence tests log coin after last) (is_asked log after last) (λ m. refl) openings
-    items last tt i
-    o number n (record { same = cleared.same; inside = inside; is = is }) cleared.passed first
-
--- the next opening is looked at
-pub cleared-looked : {tests : Tests} {log : List RootCall} {coin after last : ℕ} {openings items : List RawOpening}
-    {i number : ℕ} → Cleared tests log coin after last openings items i number
-    → (o : RawOpening) → i < length items → o ≡ get_or items i o
-    → NoneIsAsked (is_asked log after last) number o.block → is_asked log after last o.block ≡ true
-    → IsLookedAt (is_asked log after last)
-    (λ n. failure_of_absence tests log coin after last n (opening_at openings n)) openings
-cleared-looked {tests} {log} {coin} {after} {last} {openings} {items} {i} {number} cleared o inside is none asked =
-    looked-at (failure_of_absence tests log coin after last) (is_asked log after last) (λ m. refl) openings items last i
-    o number (record { same = cleared.same; inside = inside; is = is }) cleared.passed none asked
-
--- the next opening isn't asked, or doesn't open its block's root
-pub cleared-unopened : {tests : Tests} {log : List RootCall} {coin after last : ℕ} {openings items : List RawOpening}
-    {i number : ℕ} → Cleared tests log coin after last openings items i number
-    → (o : RawOpening) → i < length items → o ≡ get_or items i o
-    → NoneIsAsked (is_asked log after last) number o.block
-    → (why : HistoryRefusal) → Err why ≡ unless_failed
-    (first_cause (opening_causes tests log coin (is_asked log after last o.block) o)) (leaf_of_opening o)
-    → absence_by tests log coin after last openings ≡ Err why
-cleared-unopened {tests} {log} {coin} {after} {last} {openings} {items} {i} {number} cleared o inside is none why
-    fails =
-    failing-next (failure_of_absence tests log coin after last) (is_asked log after last) (λ m. refl) openings
-    items last tt i
-    o number why (record { same = cleared.same; inside = inside; is = is }) cleared.passed none
-    (grind (arith, common_steps, first-here, failed-some) steps 20000)
-
 -- what the opening fails by where it opens the root, by whether its leaf has bytes
 presence-opened : (tests : Tests) (log : List RootCall) (coin after last : ℕ) (o : RawOpening) (leaf : List ℕ)
     (empty : Bool) → Ok leaf ≡ unless_failed
@@ -85,59 +37,78 @@ presence-opened tests log coin after last o leaf empty opens is =
     (leaf_of_opening o) leaf (sym opens) in
     grind (arith, common_steps, first-later, absent-from) steps 20000
 
--- the next opening opens the root to a leaf with bytes
-pub cleared-present : {tests : Tests} {log : List RootCall} {coin after last : ℕ} {openings items : List RawOpening}
-    {i number : ℕ} → Cleared tests log coin after last openings items i number
-    → (o : RawOpening) → i < length items → o ≡ get_or items i o
-    → NoneIsAsked (is_asked log after last) number o.block
-    → (leaf : List ℕ) → Ok leaf ≡ unless_failed
-    (first_cause (opening_causes tests log coin (is_asked log after last o.block) o)) (leaf_of_opening o)
-    → (length leaf == 0) ≡ false
-    → absence_by tests log coin after last openings ≡ Err (NotAbsent o.block)
-cleared-present {tests} {log} {coin} {after} {last} {openings} {items} {i} {number} cleared o inside is none leaf opens
-    bytes =
-    failing-next (failure_of_absence tests log coin after last) (is_asked log after last) (λ m. refl) openings
-    items last tt i
-    o number (NotAbsent o.block) (record { same = cleared.same; inside = inside; is = is }) cleared.passed none
-    (presence-opened tests log coin after last o leaf false opens bytes)
+-- what is answered of the openings from here on
+module _ {tests : Tests} {log : List RootCall} {coin after last : ℕ} {openings items : List RawOpening} {i number : ℕ}
+    (cleared : Cleared tests log coin after last openings items i number) where
+  -- the next opening
+  module _ (o : RawOpening) (inside : i < length items) (is : o ≡ get_or items i o) where
+    place : IsAt openings items i o
+    place = record { same = cleared.same; inside = inside; is = is }
 
--- it opens the root to an empty leaf
-pub cleared-next : {tests : Tests} {log : List RootCall} {coin after last : ℕ} {openings items : List RawOpening}
-    {i number : ℕ} → Cleared tests log coin after last openings items i number
-    → (o : RawOpening) → i < length items → o ≡ get_or items i o
-    → NoneIsAsked (is_asked log after last) number o.block
-    → (leaf : List ℕ) → Ok leaf ≡ unless_failed
-    (first_cause (opening_causes tests log coin (is_asked log after last o.block) o)) (leaf_of_opening o)
-    → (length leaf == 0) ≡ true
-    → (behind : ℕ) → behind ≡ o.block + 1 → Cleared tests log coin after last openings items (i + 1) behind
-cleared-next {tests} {log} {coin} {after} {last} {openings} {items} {i} {number} cleared o inside is none leaf opens
-    empty behind above-it = record {
-      same = cleared.same;
-      passed = subst (λ (m : ℕ). Passed (failure_of_absence tests log coin after last) openings (drop (i + 1) items) m)
-          (sym above-it)
-          (holding-next (failure_of_absence tests log coin after last) (is_asked log after last) (λ m. refl)
-          openings items last
-          i o number (record { same = cleared.same; inside = inside; is = is }) cleared.passed none
-          (presence-opened tests log coin after last o leaf true opens empty));
-    }
+    -- a block before it is asked
+    pub cleared-missing : (n : ℕ) → IsFirstAsked (is_asked log after last) number o.block n
+        → absence_by tests log coin after last openings ≡ Err (MissingBlock n)
+    cleared-missing n first =
+        missing-next (failure_of_absence tests log coin after last) (is_asked log after last) (λ m. refl) openings
+        items last tt i o number n place cleared.passed first
 
--- a block behind all openings is asked
-pub cleared-behind : {tests : Tests} {log : List RootCall} {coin after last : ℕ} {openings items : List RawOpening}
-    {i number : ℕ} → Cleared tests log coin after last openings items i number → length items ≤ i
-    → (end : ℕ) → end ≡ last + 1 → (n : ℕ) → IsFirstAsked (is_asked log after last) number end n
-    → absence_by tests log coin after last openings ≡ Err (MissingBlock n)
-cleared-behind {tests} {log} {coin} {after} {last} {openings} {items} {i} {number} cleared long end is n first =
-    missing-last (failure_of_absence tests log coin after last) (is_asked log after last) (λ m. refl) openings
-    items last tt i
-    number n long cleared.passed (subst (λ (m : ℕ). IsFirstAsked (is_asked log after last) number m n) is first)
+    module _ (none : NoneIsAsked (is_asked log after last) number o.block) where
+      -- it is looked at
+      pub cleared-looked : is_asked log after last o.block ≡ true
+          → IsLookedAt (is_asked log after last)
+          (λ n. failure_of_absence tests log coin after last n (opening_at openings n)) openings
+      cleared-looked asked =
+          looked-at (failure_of_absence tests log coin after last) (is_asked log after last) (λ m. refl) openings
+          items last i o number place cleared.passed none asked
 
--- none is
-pub cleared-end : {tests : Tests} {log : List RootCall} {coin after last : ℕ} {openings items : List RawOpening}
-    {i number : ℕ} → Cleared tests log coin after last openings items i number → length items ≤ i
-    → (end : ℕ) → end ≡ last + 1 → NoneIsAsked (is_asked log after last) number end
-    → absence_by tests log coin after last openings ≡ Ok tt
-cleared-end {tests} {log} {coin} {after} {last} {openings} {items} {i} {number} cleared long end is none =
-    holding-last (failure_of_absence tests log coin after last) (is_asked log after last) (λ m. refl) openings
-    items last tt i
-    number long cleared.passed (subst (λ (m : ℕ). NoneIsAsked (is_asked log after last) number m) is none)
-    (asked-high log after last)
+      -- it isn't asked, or doesn't open its block's root
+      pub cleared-unopened : (why : HistoryRefusal) → Err why ≡ unless_failed
+          (first_cause (opening_causes tests log coin (is_asked log after last o.block) o)) (leaf_of_opening o)
+          → absence_by tests log coin after last openings ≡ Err why
+      cleared-unopened why fails =
+          failing-next (failure_of_absence tests log coin after last) (is_asked log after last) (λ m. refl) openings
+          items last tt i o number why place cleared.passed none
+          (grind (arith, common_steps, first-here, failed-some) steps 20000)
+
+      module _ (leaf : List ℕ) (opens : Ok leaf ≡ unless_failed
+          (first_cause (opening_causes tests log coin (is_asked log after last o.block) o)) (leaf_of_opening o))
+        where
+          -- it opens the root to a leaf with bytes
+          pub cleared-present : (length leaf == 0) ≡ false
+              → absence_by tests log coin after last openings ≡ Err (NotAbsent o.block)
+          cleared-present bytes =
+              failing-next (failure_of_absence tests log coin after last) (is_asked log after last) (λ m. refl)
+              openings items last tt i o number (NotAbsent o.block) place cleared.passed none
+              (presence-opened tests log coin after last o leaf false opens bytes)
+
+          -- it opens the root to an empty leaf
+          pub cleared-next : (length leaf == 0) ≡ true → (behind : ℕ) → behind ≡ o.block + 1
+              → Cleared tests log coin after last openings items (i + 1) behind
+          cleared-next empty behind above-it = record {
+            same = cleared.same;
+            passed = subst
+                (λ (m : ℕ). Passed (failure_of_absence tests log coin after last) openings (drop (i + 1) items) m)
+                (sym above-it)
+                (holding-next (failure_of_absence tests log coin after last) (is_asked log after last) (λ m. refl)
+                openings items last i o number place cleared.passed none
+                (presence-opened tests log coin after last o leaf true opens empty));
+          }
+
+  -- the openings are at their end
+  module _ (long : length items ≤ i) (end : ℕ) (at-end : end ≡ last + 1) where
+    -- a block behind them is asked
+    pub cleared-behind : (n : ℕ) → IsFirstAsked (is_asked log after last) number end n
+        → absence_by tests log coin after last openings ≡ Err (MissingBlock n)
+    cleared-behind n first =
+        missing-last (failure_of_absence tests log coin after last) (is_asked log after last) (λ m. refl) openings
+        items last tt i number n long cleared.passed
+        (subst (λ (m : ℕ). IsFirstAsked (is_asked log after last) number m n) at-end first)
+
+    -- none is
+    pub cleared-end : NoneIsAsked (is_asked log after last) number end
+        → absence_by tests log coin after last openings ≡ Ok tt
+    cleared-end none =
+        holding-last (failure_of_absence tests log coin after last) (is_asked log after last) (λ m. refl) openings
+        items last tt i number long cleared.passed
+        (subst (λ (m : ℕ). NoneIsAsked (is_asked log after last) number m) at-end none)
+        (asked-high log after last)

@@ -1,26 +1,5 @@
 -- What the check of a bundle rests on: the blocks that are asked for, and the openings that were passed.
-use Rattle.std.proofs.Common.{◌≡◌, ℕ, zero, suc, ◌+◌, ◌<◌, ◌≤◌, ◌==◌, Bool, true, false, List, [], ◌∷◌, ◌++◌, length, get_or, drop, Option, Some, None, Ok, Err, inl, inr, refl, sym, ap, ◌∙◌, subst, arith}
-use Rattle.std.specs.Prelude.{Result}
-use Rattle.std.specs.Option.{option_or}
-use Rattle.std.proofs.lemmas.List.{drop_more, drop_all}
-use Rattle.std.proofs.lemmas.Option.{slice_get_read}
-use Rattle.std.proofs.lemmas.Bool.{cases_eq, cases_lt, eq-eqb, ne_eqb, and_parts, false_from_ne_true}
-use Rattle.std.proofs.lemmas.Grind.{common_steps}
-use Rattle.plasma_tx.specs.declared.call.RootCall.{RootCall}
-use Rattle.plasma_tx.specs.declared.opening.RawOpening.{RawOpening}
-use Rattle.plasma_tx.specs.declared.views.BlockView.{BlockView}
-use Rattle.plasma_tx.specs.declared.views.CoinView.{CoinView}
-use Rattle.plasma_tx.specs.declared.call.RootCall.TheVariants.{Deposit, Commit}
-use Rattle.plasma_tx.specs.Views.{blocks, coins, block_at, coin_at}
-use Rattle.plasma_tx.proofs.Names.{some_same}
-use Rattle.plasma_tx.specs.Shown.{Tests, Rules}
-use Rattle.coin_history.specs.declared.bundle.Bundle.{Bundle}
-use Rattle.coin_history.specs.History.{is_committed, leaf_of_opening, is_empty, is_absent, links_in, tagged}
-use Rattle.coin_history.specs.declared.refusal.HistoryRefusal.{HistoryRefusal}
-use Rattle.coin_history.specs.declared.refusal.HistoryRefusal.TheVariants.{MissingBlock}
-use Rattle.coin_history.specs.Bundles.{AreRising}
-use Rattle.coin_history.specs.Checking.{Cause, first_cause, is_asked, opening_at, missing, lowest_failure, above, unless_failed, may_be_tip, history_of, opening_causes, IsLookedAt, LooksAtHistory}
-use Rattle.coin_history.specs.Inside.{NoneIsAsked, IsFirstAsked}
+use Rattle.coin_history.proofs.Words.{◌≡◌, ℕ, zero, suc, ◌+◌, ◌<◌, ◌≤◌, ◌==◌, Bool, true, false, List, [], ◌∷◌, ◌++◌, length, get_or, drop, Option, Some, None, Ok, Err, inl, inr, refl, sym, ap, ◌∙◌, subst, arith, Result, option_or, drop_more, drop_all, slice_get_read, cases_eq, cases_lt, eq-eqb, ne_eqb, and_parts, false_from_ne_true, common_steps, RootCall, RawOpening, BlockView, CoinView, Deposit, Commit, blocks, coins, block_at, coin_at, some_same, Tests, Rules, Bundle, is_committed, leaf_of_opening, is_empty, is_absent, links_in, tagged, HistoryRefusal, MissingBlock, AreRising, Cause, first_cause, is_asked, opening_at, missing, lowest_failure, above, unless_failed, may_be_tip, history_of, opening_causes, IsLookedAt, LooksAtHistory, NoneIsAsked, IsFirstAsked}
 pub use Rattle.coin_history.proofs.HistoryOpenings.{asked-parts, lowest-none_from, lowest-some_from, Up, up-rising, up-weaker, at-head, past-head, below-none, above-block}
 
 -- ---- the blocks that are asked for

@@ -1,28 +1,5 @@
 -- The links of openings that were passed, and what the next opening fails by.
-use Rattle.std.proofs.Common.{◌≡◌, ℕ, suc, ◌+◌, ◌<◌, ◌≤◌, ◌==◌, Bool, true, false, if◌then◌else◌, List, [], ◌∷◌, ◌++◌, length, get_or, drop, Option, Some, None, Ok, Err, refl, sym, ap, ◌∙◌, subst, filter, arith}
-use Rattle.std.specs.Prelude.{nat_lt, Result}
-use Rattle.std.specs.Option.{option_or, option_map, option_to_list}
-use Rattle.std.proofs.lemmas.List.{drop_all, append-nil}
-use Rattle.std.proofs.lemmas.List.Elements.{filter-append}
-use Rattle.std.proofs.lemmas.Bool.{lt-ltb, le-ltb}
-use Rattle.std.proofs.lemmas.Grind.{common_steps}
-use Rattle.plasma_tx.specs.declared.call.RootCall.{RootCall}
-use Rattle.plasma_tx.specs.declared.opening.RawOpening.{RawOpening}
-use Rattle.plasma_tx.specs.declared.signed_tx.SignedTx.{SignedTx}
-use Rattle.plasma_tx.specs.declared.links.Link.{Link}
-use Rattle.plasma_tx.specs.declared.links.Links.{Links}
-use Rattle.plasma_tx.specs.declared.views.CoinView.{CoinView}
-use Rattle.plasma_tx.specs.Links.{tip_of, last_owner_of}
-use Rattle.plasma_tx.specs.Transfer.{transfer_in}
-use Rattle.plasma_tx.proofs.Leaves.{empty-none}
-use Rattle.plasma_tx.specs.Shown.{Tests, Rules, spends}
-use Rattle.coin_history.specs.declared.bundle.Bundle.{Bundle}
-use Rattle.coin_history.specs.History.{leaf_of_opening, is_absent, transfer_of, link_of, links_in, links_of}
-use Rattle.coin_history.specs.declared.refusal.HistoryRefusal.{HistoryRefusal}
-use Rattle.coin_history.specs.declared.refusal.HistoryRefusal.TheVariants.{MissingBlock, NotLink, BadSignature}
-use Rattle.coin_history.specs.Bundles.{AreRising}
-use Rattle.coin_history.specs.Checking.{first_cause, is_asked, opening_at, lowest_failure, above, unless_failed, opening_causes, links_before, link_causes, failure_in, IsLookedAt}
-use Rattle.coin_history.specs.Inside.{NoneIsAsked, IsFirstAsked, links_with}
+use Rattle.coin_history.proofs.Words.{◌≡◌, ℕ, suc, ◌+◌, ◌<◌, ◌≤◌, ◌==◌, Bool, true, false, if◌then◌else◌, List, [], ◌∷◌, ◌++◌, length, get_or, drop, Option, Some, None, Ok, Err, refl, sym, ap, ◌∙◌, subst, filter, arith, nat_lt, Result, option_or, option_map, option_to_list, drop_all, append-nil, filter-append, lt-ltb, le-ltb, common_steps, RootCall, RawOpening, SignedTx, Link, Links, CoinView, tip_of, last_owner_of, transfer_in, empty-none, Tests, Rules, spends, Bundle, leaf_of_opening, is_absent, transfer_of, link_of, links_in, links_of, HistoryRefusal, MissingBlock, NotLink, BadSignature, AreRising, first_cause, is_asked, opening_at, lowest_failure, above, unless_failed, opening_causes, links_before, link_causes, failure_in, IsLookedAt, NoneIsAsked, IsFirstAsked, links_with}
 use Rattle.coin_history.proofs.CheckFacts.{Up, Passed, IsAt, at-index, rest-at, first-append, failed-none, failed-some, empty-is, missing-next, failing-next, holding-next, looked-at, missing-last, holding-last, passed-start, asked-high}
 
 -- ---- links
@@ -225,145 +202,118 @@ walked-start tests rules log made bundle items spends rising same none = record 
   collected = grind (arith, common_steps, collected-start) steps 20000;
 }
 
--- a block before the next opening is asked
-pub walked-missing : {tests : Tests} {rules : Rules} {log : List RootCall} {made : CoinView} {bundle : Bundle}
+-- what is answered of the bundle from here on
+module _ {tests : Tests} {rules : Rules} {log : List RootCall} {made : CoinView} {bundle : Bundle}
     {items : List RawOpening} {i number : ℕ} {spends : List Link}
-    → Walked tests rules log made bundle items i number spends
-    → (o : RawOpening) → i < length items → o ≡ get_or items i o
-    → (n : ℕ) → IsFirstAsked (is_asked log made.deposit bundle.tip) number o.block n
-    → answer_of tests rules log made bundle ≡ Err (MissingBlock n)
-walked-missing {tests} {rules} {log} {made} {bundle} {items} {i} {number} walked o inside is n first =
-    missing-next (failure_in tests rules log bundle.tip (links_of rules made bundle))
-    (is_asked log made.deposit bundle.tip) (λ m. refl) bundle.openings items bundle.tip (links_of rules made
-    bundle) i o
-    number n (record { same = walked.same; inside = inside; is = is }) walked.passed first
+    (walked : Walked tests rules log made bundle items i number spends) where
+  -- the next opening
+  module _ (o : RawOpening) (inside : i < length items) (is : o ≡ get_or items i o) where
+    place : IsAt bundle.openings items i o
+    place = record { same = walked.same; inside = inside; is = is }
 
--- the next opening is looked at
-pub walked-looked : {tests : Tests} {rules : Rules} {log : List RootCall} {made : CoinView} {bundle : Bundle}
-    {items : List RawOpening} {i number : ℕ} {spends : List Link}
-    → Walked tests rules log made bundle items i number spends
-    → (o : RawOpening) → i < length items → o ≡ get_or items i o
-    → NoneIsAsked (is_asked log made.deposit bundle.tip) number o.block
-    → is_asked log made.deposit bundle.tip o.block ≡ true
-    → IsLookedAt (is_asked log made.deposit bundle.tip)
-    (λ n. failure_in tests rules log bundle.tip (links_of rules made bundle) n (opening_at bundle.openings n))
-    bundle.openings
-walked-looked {tests} {rules} {log} {made} {bundle} {items} {i} {number} walked o inside is none asked =
-    looked-at (failure_in tests rules log bundle.tip (links_of rules made bundle))
-    (is_asked log made.deposit bundle.tip) (λ m. refl) bundle.openings items bundle.tip i o number
-    (record { same = walked.same; inside = inside; is = is }) walked.passed none asked
+    -- a block before it is asked
+    pub walked-missing : (n : ℕ) → IsFirstAsked (is_asked log made.deposit bundle.tip) number o.block n
+        → answer_of tests rules log made bundle ≡ Err (MissingBlock n)
+    walked-missing n first =
+        missing-next (failure_in tests rules log bundle.tip (links_of rules made bundle))
+        (is_asked log made.deposit bundle.tip) (λ m. refl) bundle.openings items bundle.tip
+        (links_of rules made bundle) i o number n place walked.passed first
 
--- the next opening isn't asked, or doesn't open its block's root
-pub walked-unopened : {tests : Tests} {rules : Rules} {log : List RootCall} {made : CoinView} {bundle : Bundle}
-    {items : List RawOpening} {i number : ℕ} {spends : List Link}
-    → Walked tests rules log made bundle items i number spends
-    → (o : RawOpening) → i < length items → o ≡ get_or items i o
-    → NoneIsAsked (is_asked log made.deposit bundle.tip) number o.block
-    → (why : HistoryRefusal) → Err why ≡ unless_failed
-    (first_cause (opening_causes tests log bundle.coin (is_asked log made.deposit bundle.tip o.block) o))
-    (leaf_of_opening o)
-    → answer_of tests rules log made bundle ≡ Err why
-walked-unopened {tests} {rules} {log} {made} {bundle} {items} {i} {number} {spends} walked o inside is none why fails =
-    let place : IsAt bundle.openings items i o = record { same = walked.same; inside = inside; is = is } in
-    failing-next (failure_in tests rules log bundle.tip (links_of rules made bundle))
-    (is_asked log made.deposit bundle.tip) (λ m. refl) bundle.openings items bundle.tip (links_of rules made
-    bundle) i o
-    number why place walked.passed none
-    (fails-opened tests rules log made bundle items i o number spends place walked.passed walked.collected
-    (leaf_of_opening o) why (sym fails))
-
--- the next opening opens the root, and isn't the next link
-pub walked-unlinked : {tests : Tests} {rules : Rules} {log : List RootCall} {made : CoinView} {bundle : Bundle}
-    {items : List RawOpening} {i number : ℕ} {spends : List Link}
-    → Walked tests rules log made bundle items i number spends
-    → (o : RawOpening) → i < length items → o ≡ get_or items i o
-    → NoneIsAsked (is_asked log made.deposit bundle.tip) number o.block
-    → (leaf : List ℕ) → Ok leaf ≡ unless_failed
-    (first_cause (opening_causes tests log bundle.coin (is_asked log made.deposit bundle.tip o.block) o))
-    (leaf_of_opening o)
-    → (lent : List Link) → lent ≡ spends
-    → (why : HistoryRefusal) → Err why ≡ next_of tests rules bundle.tip (links_with bundle.coin made lent) o
-    → answer_of tests rules log made bundle ≡ Err why
-walked-unlinked {tests} {rules} {log} {made} {bundle} {items} {i} {number} {spends} walked o inside is none leaf opens
-    lent equal why fails =
-    let place : IsAt bundle.openings items i o = record { same = walked.same; inside = inside; is = is } in
-    failing-next (failure_in tests rules log bundle.tip (links_of rules made bundle))
-    (is_asked log made.deposit bundle.tip) (λ m. refl) bundle.openings items bundle.tip (links_of rules made
-    bundle) i o
-    number why place walked.passed none
-    (fails-linked tests rules log made bundle items i o number spends place walked.passed walked.collected
-    (leaf_of_opening o) leaf (sym opens)
-    ∙ ap (λ (xs : List Link). first_cause (link_causes tests rules bundle.tip (links_with bundle.coin made xs) o))
-    (sym equal)
-    ∙ failed-some (first_cause (link_causes tests rules bundle.tip (links_with bundle.coin made lent) o))
-    (transfer_of rules bundle.coin o) why (sym fails))
-
--- the next opening opens the root, and is empty or the next link
-pub walked-next : {tests : Tests} {rules : Rules} {log : List RootCall} {made : CoinView} {bundle : Bundle}
-    {items : List RawOpening} {i number : ℕ} {spends : List Link}
-    → Walked tests rules log made bundle items i number spends
-    → (o : RawOpening) → i < length items → o ≡ get_or items i o
-    → NoneIsAsked (is_asked log made.deposit bundle.tip) number o.block
-    → (leaf : List ℕ) → Ok leaf ≡ unless_failed
-    (first_cause (opening_causes tests log bundle.coin (is_asked log made.deposit bundle.tip o.block) o))
-    (leaf_of_opening o)
-    → (lent : List Link) → lent ≡ spends
-    → (next : Option SignedTx) → Ok next ≡ next_of tests rules bundle.tip (links_with bundle.coin made lent) o
-    → (grown : List Link) → grown ≡ spends ++ option_to_list (option_map (as_link o) next)
-    → (behind : ℕ) → behind ≡ o.block + 1 → Walked tests rules log made bundle items (i + 1) behind grown
-walked-next {tests} {rules} {log} {made} {bundle} {items} {i} {number} {spends} walked o inside is none leaf opens
-    lent equal next holds grown adds behind after =
-    let place : IsAt bundle.openings items i o = record { same = walked.same; inside = inside; is = is } in
-    let linked = failed-none (first_cause (link_causes tests rules bundle.tip (links_with bundle.coin made lent) o))
-    (transfer_of rules bundle.coin o) next (sym holds) in
-    let gives : grown ≡ spends ++ option_to_list (link_of rules bundle.coin o) =
-    adds ∙ ap (λ (t : Option SignedTx). spends ++ option_to_list (option_map (as_link o) t)) (sym linked.1) in
-    record {
-      same = walked.same;
-      passed = subst
-          (λ (m : ℕ). Passed (failure_in tests rules log bundle.tip (links_of rules made bundle)) bundle.openings
-          (drop (i + 1) items) m) (sym after)
-          (holding-next (failure_in tests rules log bundle.tip (links_of rules made bundle))
+    module _ (none : NoneIsAsked (is_asked log made.deposit bundle.tip) number o.block) where
+      -- it is looked at
+      pub walked-looked : is_asked log made.deposit bundle.tip o.block ≡ true
+          → IsLookedAt (is_asked log made.deposit bundle.tip)
+          (λ n. failure_in tests rules log bundle.tip (links_of rules made bundle) n (opening_at bundle.openings n))
+          bundle.openings
+      walked-looked asked =
+          looked-at (failure_in tests rules log bundle.tip (links_of rules made bundle))
           (is_asked log made.deposit bundle.tip) (λ m. refl) bundle.openings items bundle.tip i o number place
-          walked.passed none
-          (fails-linked tests rules log made bundle items i o number spends place walked.passed walked.collected
-          (leaf_of_opening o) leaf (sym opens)
-          ∙ ap (λ (xs : List Link). first_cause (link_causes tests rules bundle.tip
-          (links_with bundle.coin made xs) o)) (sym equal)
-          ∙ linked.0));
-      collected = subst
-          (λ (m : ℕ). Collected rules bundle.coin bundle.openings (drop (i + 1) items) m grown) (sym after)
-          (subst (λ (xs : List Link). Collected rules bundle.coin bundle.openings (drop (i + 1) items) (o.block +
-          1) xs)
-          (sym gives)
-          (collected-past tests rules log made bundle items i o number spends place walked.passed walked.collected));
-    }
+          walked.passed none asked
 
--- a block behind all openings is asked
-pub walked-behind : {tests : Tests} {rules : Rules} {log : List RootCall} {made : CoinView} {bundle : Bundle}
-    {items : List RawOpening} {i number : ℕ} {spends : List Link}
-    → Walked tests rules log made bundle items i number spends → length items ≤ i
-    → (end : ℕ) → end ≡ bundle.tip + 1
-    → (n : ℕ) → IsFirstAsked (is_asked log made.deposit bundle.tip) number end n
-    → answer_of tests rules log made bundle ≡ Err (MissingBlock n)
-walked-behind {tests} {rules} {log} {made} {bundle} {items} {i} {number} walked long end after n first =
-    missing-last (failure_in tests rules log bundle.tip (links_of rules made bundle))
-    (is_asked log made.deposit bundle.tip) (λ m. refl) bundle.openings items bundle.tip (links_of rules made bundle) i
-    number n long walked.passed
-    (subst (λ (m : ℕ). IsFirstAsked (is_asked log made.deposit bundle.tip) number m n) after first)
+      -- what it fails by is answered
+      walked-failing : (why : HistoryRefusal)
+          → failure_in tests rules log bundle.tip (links_of rules made bundle) o.block (Some o) ≡ Some why
+          → answer_of tests rules log made bundle ≡ Err why
+      walked-failing why fails =
+          failing-next (failure_in tests rules log bundle.tip (links_of rules made bundle))
+          (is_asked log made.deposit bundle.tip) (λ m. refl) bundle.openings items bundle.tip
+          (links_of rules made bundle) i o number why place walked.passed none fails
 
--- none is
-pub walked-end : {tests : Tests} {rules : Rules} {log : List RootCall} {made : CoinView} {bundle : Bundle}
-    {items : List RawOpening} {i number : ℕ} {spends : List Link}
-    → Walked tests rules log made bundle items i number spends → length items ≤ i
-    → (end : ℕ) → end ≡ bundle.tip + 1 → NoneIsAsked (is_asked log made.deposit bundle.tip) number end
-    → (all : List Link) → all ≡ spends
-    → answer_of tests rules log made bundle ≡ Ok (links_with bundle.coin made all)
-walked-end {tests} {rules} {log} {made} {bundle} {items} {i} {number} {spends} walked long end after none all equal =
-    holding-last (failure_in tests rules log bundle.tip (links_of rules made bundle))
-    (is_asked log made.deposit bundle.tip) (λ m. refl) bundle.openings items bundle.tip (links_of rules made bundle) i
-    number long walked.passed
-    (subst (λ (m : ℕ). NoneIsAsked (is_asked log made.deposit bundle.tip) number m) after none)
-    (asked-high log made.deposit bundle.tip)
-    ∙ ap Ok (sym (ap (links_with bundle.coin made) equal
-    ∙ collected-all rules made bundle items i number spends long walked.collected))
+      -- it isn't asked, or doesn't open its block's root
+      pub walked-unopened : (why : HistoryRefusal) → Err why ≡ unless_failed
+          (first_cause (opening_causes tests log bundle.coin (is_asked log made.deposit bundle.tip o.block) o))
+          (leaf_of_opening o) → answer_of tests rules log made bundle ≡ Err why
+      walked-unopened why fails =
+          walked-failing why (fails-opened tests rules log made bundle items i o number spends place walked.passed
+          walked.collected (leaf_of_opening o) why (sym fails))
+
+      -- it opens the root, and isn't the next link, or is empty or the next link
+      module _ (leaf : List ℕ) (opens : Ok leaf ≡ unless_failed
+          (first_cause (opening_causes tests log bundle.coin (is_asked log made.deposit bundle.tip o.block) o))
+          (leaf_of_opening o)) (lent : List Link) (equal : lent ≡ spends)
+        where
+          linked-lent : failure_in tests rules log bundle.tip (links_of rules made bundle) o.block (Some o)
+              ≡ first_cause (link_causes tests rules bundle.tip (links_with bundle.coin made lent) o)
+          linked-lent =
+              fails-linked tests rules log made bundle items i o number spends place walked.passed walked.collected
+              (leaf_of_opening o) leaf (sym opens)
+              ∙ ap (λ (xs : List Link). first_cause (link_causes tests rules bundle.tip
+              (links_with bundle.coin made xs) o)) (sym equal)
+
+          pub walked-unlinked : (why : HistoryRefusal)
+              → Err why ≡ next_of tests rules bundle.tip (links_with bundle.coin made lent) o
+              → answer_of tests rules log made bundle ≡ Err why
+          walked-unlinked why fails =
+              walked-failing why (linked-lent ∙ failed-some
+              (first_cause (link_causes tests rules bundle.tip (links_with bundle.coin made lent) o))
+              (transfer_of rules bundle.coin o) why (sym fails))
+
+          pub walked-next : (next : Option SignedTx)
+              → Ok next ≡ next_of tests rules bundle.tip (links_with bundle.coin made lent) o
+              → (grown : List Link) → grown ≡ spends ++ option_to_list (option_map (as_link o) next)
+              → (behind : ℕ) → behind ≡ o.block + 1 → Walked tests rules log made bundle items (i + 1) behind grown
+          walked-next next holds grown adds behind after =
+              let linked = failed-none
+              (first_cause (link_causes tests rules bundle.tip (links_with bundle.coin made lent) o))
+              (transfer_of rules bundle.coin o) next (sym holds) in
+              let gives : grown ≡ spends ++ option_to_list (link_of rules bundle.coin o) =
+              adds ∙ ap (λ (t : Option SignedTx). spends ++ option_to_list (option_map (as_link o) t)) (sym linked.1) in
+              record {
+                same = walked.same;
+                passed = subst
+                    (λ (m : ℕ). Passed (failure_in tests rules log bundle.tip (links_of rules made bundle))
+                    bundle.openings (drop (i + 1) items) m) (sym after)
+                    (holding-next (failure_in tests rules log bundle.tip (links_of rules made bundle))
+                    (is_asked log made.deposit bundle.tip) (λ m. refl) bundle.openings items bundle.tip i o number
+                    place walked.passed none (linked-lent ∙ linked.0));
+                collected = subst
+                    (λ (m : ℕ). Collected rules bundle.coin bundle.openings (drop (i + 1) items) m grown) (sym after)
+                    (subst (λ (xs : List Link). Collected rules bundle.coin bundle.openings (drop (i + 1) items)
+                    (o.block + 1) xs) (sym gives)
+                    (collected-past tests rules log made bundle items i o number spends place walked.passed
+                    walked.collected));
+              }
+
+  -- the openings are at their end
+  module _ (long : length items ≤ i) (end : ℕ) (at-end : end ≡ bundle.tip + 1) where
+    -- a block behind them is asked
+    pub walked-behind : (n : ℕ) → IsFirstAsked (is_asked log made.deposit bundle.tip) number end n
+        → answer_of tests rules log made bundle ≡ Err (MissingBlock n)
+    walked-behind n first =
+        missing-last (failure_in tests rules log bundle.tip (links_of rules made bundle))
+        (is_asked log made.deposit bundle.tip) (λ m. refl) bundle.openings items bundle.tip
+        (links_of rules made bundle) i number n long walked.passed
+        (subst (λ (m : ℕ). IsFirstAsked (is_asked log made.deposit bundle.tip) number m n) at-end first)
+
+    -- none is
+    pub walked-end : NoneIsAsked (is_asked log made.deposit bundle.tip) number end
+        → (all : List Link) → all ≡ spends
+        → answer_of tests rules log made bundle ≡ Ok (links_with bundle.coin made all)
+    walked-end none all equal =
+        holding-last (failure_in tests rules log bundle.tip (links_of rules made bundle))
+        (is_asked log made.deposit bundle.tip) (λ m. refl) bundle.openings items bundle.tip
+        (links_of rules made bundle) i number long walked.passed
+        (subst (λ (m : ℕ). NoneIsAsked (is_asked log made.deposit bundle.tip) number m) at-end none)
+        (asked-high log made.deposit bundle.tip)
+        ∙ ap Ok (sym (ap (links_with bundle.coin made) equal
+        ∙ collected-all rules made bundle items i number spends long walked.collected))

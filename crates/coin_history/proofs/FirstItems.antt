@@ -1,15 +1,6 @@
 -- Bytes that spell a bundle with an opening have a first item.
-use Rattle.std.proofs.Common.{◌≡◌, ◌≢◌, ℕ, zero, suc, ◌+◌, ◌≤◌, ◌==◌, Bool, true, false, if◌then◌else◌, List, [], length, Option, Result, Ok, Err, refl, sym, ◌∙◌, arith}
+use Rattle.coin_history.proofs.Words.{◌≡◌, ◌≢◌, ℕ, zero, suc, ◌+◌, ◌≤◌, ◌==◌, Bool, true, false, if◌then◌else◌, List, [], length, Option, Result, Ok, Err, refl, sym, ◌∙◌, arith, ltb-false, common_steps, RawOpening, number_at, Bundle, HistoryRefusal, BadBundle, IsLookedAt, Items, length_at, items_in, with_item, bundle_of, bundle_in, HasFirstItem}
 use Rattle.std.specs.Prelude.{nat_lt, is_ok, slice_range}
-use Rattle.std.proofs.lemmas.Bool.{ltb-false}
-use Rattle.std.proofs.lemmas.Grind.{common_steps}
-use Rattle.plasma_tx.specs.declared.opening.RawOpening.{RawOpening}
-use Rattle.plasma_tx.specs.Spelling.{number_at}
-use Rattle.coin_history.specs.declared.bundle.Bundle.{Bundle}
-use Rattle.coin_history.specs.declared.refusal.HistoryRefusal.{HistoryRefusal}
-use Rattle.coin_history.specs.declared.refusal.HistoryRefusal.TheVariants.{BadBundle}
-use Rattle.coin_history.specs.Checking.{IsLookedAt}
-use Rattle.coin_history.specs.Bundles.{Items, length_at, items_in, with_item, bundle_of, bundle_in, HasFirstItem}
 
 -- where tests let one answer through, they let another
 ok-too : (a b c d : Bool) (one two three four : HistoryRefusal) (items : Items)

@@ -1,17 +1,5 @@
 -- The check passes a bundle exactly where it shows that its coin is absent.
-use Rattle.std.proofs.Common.{◌≡◌, ℕ, ◌<◌, ◌==◌, Bool, true, false, List, [], ◌∷◌, Some, None, refl, sym, ap, ◌∙◌, subst, arith}
-use Rattle.std.specs.List.{AllByRecursion}
-use Rattle.std.proofs.lemmas.Bool.{eqb-true, eq-eqb, true≢false, false_from_ne_true, not-false}
-use Rattle.std.proofs.lemmas.List.Elements.{recursion_from_All}
-use Rattle.std.proofs.lemmas.Grind.{common_steps}
-use Rattle.plasma_tx.specs.declared.opening.RawOpening.{RawOpening}
-use Rattle.plasma_tx.specs.declared.call.RootCall.{RootCall}
-use Rattle.plasma_tx.specs.Shown.{Tests}
-use Rattle.coin_history.specs.declared.refusal.HistoryRefusal.TheVariants.{UnknownBlock}
-use Rattle.coin_history.specs.Bundles.{AreRising}
-use Rattle.coin_history.specs.History.{opens_block, is_absent}
-use Rattle.coin_history.specs.Checking.{is_asked, opening_at, missing, lowest_failure, above, failure_of_absence, absence_of}
-use Rattle.coin_history.specs.Laws.{OnlyAbsencesPass, AbsencesPass}
+use Rattle.coin_history.proofs.Words.{◌≡◌, ℕ, ◌<◌, ◌==◌, Bool, true, false, List, [], ◌∷◌, Some, None, refl, sym, ap, ◌∙◌, subst, arith, AllByRecursion, eqb-true, eq-eqb, true≢false, false_from_ne_true, not-false, recursion_from_All, common_steps, RawOpening, RootCall, Tests, UnknownBlock, AreRising, opens_block, is_absent, is_asked, opening_at, missing, lowest_failure, above, failure_of_absence, absence_of, OnlyAbsencesPass, AbsencesPass}
 use Rattle.coin_history.proofs.HistoryOpenings.{lowest-none, lowest-none_from, up-rising, each-found, found-each, above-block, found-below, asked-parts, AreAsked, are-asked, blocks-from_asked, asked-from_blocks, found-block}
 use Rattle.coin_history.proofs.HistoryLinks.{every-weaker}
 use Rattle.coin_history.proofs.HistoryFound.{causes-none, none-causes, missing-none, answered}

@@ -1,26 +1,8 @@
 -- Two histories of one coin agree up to the nearer tip, and absences exclude links, or they show two leaves of a root.
-use Rattle.std.proofs.Common.{◌≡◌, ℕ, zero, suc, true, false, List, [], ◌∷◌, map, Option, Some, None, inl, inr, refl, sym, ap, ◌∙◌, subst, arith, ◌&&◌, Bool, if◌then◌else◌, filter}
-use Rattle.std.specs.Prelude.{◌⊎◌, ◌≢◌, nat_lt, nat_le}
+use Rattle.coin_history.proofs.Words.{◌≡◌, ℕ, zero, suc, true, false, List, [], ◌∷◌, map, Option, Some, None, inl, inr, refl, sym, ap, ◌∙◌, subst, arith, ◌&&◌, Bool, if◌then◌else◌, filter, ◌⊎◌, ◌≢◌, nat_lt, nat_le, option_map, option_map_or, AllByRecursion, cons_option, Contains, true≢false, and_parts, ltb-true, leb-true, recursion_from_All, All-from_recursion, All-filter, All-contains_itself, common_steps, RawOpening, SignedTx, Link, Links, RootCall, coin_at, some_same, Tests, Rules, root_at, committed_blocks, blocks_of, opens_block, leaf_of_opening, transfer_of, links_in, is_empty, is_absent, ShowTwoLeaves, block_and_tx, HistoriesAgree, AbsencesExcludeLinks, CoinView, is_asked, opening_at}
 use Rattle.std.specs.Str.{bytes_eq}
-use Rattle.std.specs.Option.{option_map, option_map_or}
-use Rattle.std.specs.List.{AllByRecursion, cons_option, Contains}
-use Rattle.std.proofs.lemmas.Bool.{true≢false, and_parts, ltb-true, leb-true}
-use Rattle.std.proofs.lemmas.List.Elements.{recursion_from_All, All-from_recursion, All-filter, All-contains_itself}
 use Rattle.std.proofs.lemmas.Slice.Eq.{bytes_eq-Decides}
-use Rattle.std.proofs.lemmas.Grind.{common_steps}
-use Rattle.plasma_tx.specs.declared.opening.RawOpening.{RawOpening}
-use Rattle.plasma_tx.specs.declared.signed_tx.SignedTx.{SignedTx}
-use Rattle.plasma_tx.specs.declared.links.Link.{Link}
-use Rattle.plasma_tx.specs.declared.links.Links.{Links}
-use Rattle.plasma_tx.specs.declared.call.RootCall.{RootCall}
-use Rattle.plasma_tx.specs.Views.{coin_at}
-use Rattle.plasma_tx.proofs.Names.{some_same}
-use Rattle.plasma_tx.specs.Shown.{Tests, Rules, root_at}
-use Rattle.coin_history.specs.History.{committed_blocks, blocks_of, opens_block, leaf_of_opening, transfer_of, links_in, is_empty, is_absent}
-use Rattle.coin_history.specs.Laws.{ShowTwoLeaves, block_and_tx, HistoriesAgree, AbsencesExcludeLinks}
 use Rattle.coin_history.proofs.HistoryLinks.{with_tx, absent-none}
-use Rattle.plasma_tx.specs.declared.views.CoinView.{CoinView}
-use Rattle.coin_history.specs.Checking.{is_asked, opening_at}
 use Rattle.coin_history.proofs.HistoryOpenings.{found-each, asked-parts, asked-from, AreAsked, blocks-from_asked, asked-from_blocks}
 use Rattle.coin_history.proofs.HistoryGrow.{within, asked-within}
 

@@ -1,28 +1,5 @@
 -- Below the lowest block at which a bundle fails it is as a history is.
-use Rattle.std.proofs.Common.{◌≡◌, ℕ, suc, ◌+◌, ◌-◌, ◌<◌, ◌≤◌, ◌&&◌, not, Bool, true, false, if◌then◌else◌, List, [], ◌∷◌, map, length, Option, Some, None, Err, refl, sym, ap, ◌∙◌, subst, filter, arith}
-use Rattle.std.specs.Prelude.{nat_lt, slice_get}
-use Rattle.std.specs.Option.{option_map, option_map_or}
-use Rattle.std.specs.List.{AllByRecursion, range_with_len}
-use Rattle.std.proofs.lemmas.Bool.{and_parts, and_from, lt-ltb, ltb-true, ltb-false, true≢false, false_from_ne_true}
-use Rattle.std.proofs.lemmas.List.{length-map}
-use Rattle.std.proofs.lemmas.List.Elements.{All-from_recursion}
-use Rattle.std.proofs.lemmas.Option.{slice_get-map}
-use Rattle.std.proofs.lemmas.Grind.{common_steps}
-use Rattle.plasma_tx.specs.declared.owner.Owner.{Owner}
-use Rattle.plasma_tx.specs.declared.opening.RawOpening.{RawOpening}
-use Rattle.plasma_tx.specs.declared.links.Link.{Link}
-use Rattle.plasma_tx.specs.declared.links.Links.{Links}
-use Rattle.plasma_tx.specs.declared.call.RootCall.{RootCall}
-use Rattle.plasma_tx.specs.declared.views.CoinView.{CoinView}
-use Rattle.plasma_tx.specs.Views.{owner_of_opening}
-use Rattle.plasma_tx.specs.Shown.{Tests, Rules}
-use Rattle.plasma_tx.proofs.Leaves.{recipient-named}
-use Rattle.coin_history.specs.declared.bundle.Bundle.{Bundle}
-use Rattle.coin_history.specs.declared.refusal.HistoryRefusal.{HistoryRefusal}
-use Rattle.coin_history.specs.Bundles.{AreRising}
-use Rattle.coin_history.specs.History.{is_committed, committed_blocks, blocks_of, is_absent, links_in, links_of, AreLinked}
-use Rattle.coin_history.specs.Checking.{is_asked, opening_at, links_before, failure_in, above, unless_failed, checked, history_of}
-use Rattle.coin_history.specs.Laws.{openings_before, last_shown, FailsFirstAt, RefusalsComeBehindLinks}
+use Rattle.coin_history.proofs.Words.{◌≡◌, ℕ, suc, ◌+◌, ◌-◌, ◌<◌, ◌≤◌, ◌&&◌, not, Bool, true, false, if◌then◌else◌, List, [], ◌∷◌, map, length, Option, Some, None, Err, refl, sym, ap, ◌∙◌, subst, filter, arith, nat_lt, slice_get, option_map, option_map_or, AllByRecursion, range_with_len, and_parts, and_from, lt-ltb, ltb-true, ltb-false, true≢false, false_from_ne_true, length-map, All-from_recursion, slice_get-map, common_steps, Owner, RawOpening, Link, Links, RootCall, CoinView, owner_of_opening, Tests, Rules, recipient-named, Bundle, HistoryRefusal, AreRising, is_committed, committed_blocks, blocks_of, is_absent, links_in, links_of, AreLinked, is_asked, opening_at, links_before, failure_in, above, unless_failed, checked, history_of, openings_before, last_shown, FailsFirstAt, RefusalsComeBehindLinks}
 use Rattle.coin_history.proofs.HistoryOpenings.{lowest-some, Up, up-rising, up-weaker, past-head, each-found, found-block, asked-parts, asked-from, AreOf, blocks-from_are}
 use Rattle.coin_history.proofs.HistoryLinks.{every-weaker, with_tx, absent-none, IsLeaf, IsNext, linked}
 use Rattle.coin_history.proofs.HistoryFound.{IsRight, right-from_none, missing-none}

@@ -1,28 +1,7 @@
 -- The check answers a bundle its links exactly where it is a history with these links.
-use Rattle.std.proofs.Common.{◌≡◌, ℕ, suc, ◌<◌, ◌==◌, ◌&&◌, not, Bool, true, false, if◌then◌else◌, List, [], ◌∷◌, ◌++◌, Option, Some, None, Ok, Err, inl, inr, refl, sym, ap, ◌∙◌, subst, arith, filter}
-use Rattle.std.specs.Prelude.{nat_lt, ◌||◌}
-use Rattle.std.specs.List.{AllByRecursion}
-use Rattle.std.proofs.lemmas.Bool.{eqb-true, eq-eqb, and_from, or_cases, or_right, lt-ltb, le-leb, true≢false, false_from_ne_true, not-false}
-use Rattle.std.proofs.lemmas.List.Elements.{recursion_from_All, All-from_recursion}
-use Rattle.std.proofs.lemmas.Grind.{common_steps}
-use Rattle.plasma_tx.specs.declared.opening.RawOpening.{RawOpening}
-use Rattle.plasma_tx.specs.declared.signed_tx.SignedTx.{SignedTx}
-use Rattle.plasma_tx.specs.declared.links.Link.{Link}
-use Rattle.plasma_tx.specs.declared.links.Links.{Links}
-use Rattle.plasma_tx.specs.declared.call.RootCall.{RootCall}
-use Rattle.plasma_tx.specs.declared.views.CoinView.{CoinView}
-use Rattle.plasma_tx.specs.Links.{tip_of}
-use Rattle.plasma_tx.specs.Views.{coin_at}
-use Rattle.plasma_tx.proofs.Names.{some_same}
-use Rattle.plasma_tx.specs.Shown.{Tests, Rules, spends}
-use Rattle.coin_history.specs.declared.bundle.Bundle.{Bundle}
-use Rattle.coin_history.specs.declared.refusal.HistoryRefusal.{HistoryRefusal}
-use Rattle.coin_history.specs.Bundles.{AreRising}
-use Rattle.coin_history.specs.History.{is_committed, opens_block, is_absent, transfer_of, links_in, links_of, AreLinked, IsHistory}
-use Rattle.coin_history.specs.Checking.{Cause, first_cause, is_asked, opening_at, missing, opening_causes, links_before, link_causes, failure_in, lowest_failure, above, unless_failed, may_be_tip, checked, history_of}
-use Rattle.coin_history.specs.Laws.{OnlyHistoriesPass, HistoriesPass}
-use Rattle.coin_history.proofs.HistoryOpenings.{Up, opening-own, lowest-none, lowest-none_from, Up, up-rising, up-each, each-found, found-each, above-block, found-below, asked-parts, AreAsked, are-asked, nothing-asked, blocks-from_asked, asked-from_blocks, found-block, rising-up}
-use Rattle.coin_history.proofs.HistoryLinks.{links_before-front, every-weaker, tip_from, tip-is, absent-none, none-linked, IsLeaf, IsNext, IsSome, linked, are-next, tip-reached, tip-found}
+use Rattle.coin_history.proofs.Words.{◌≡◌, ℕ, suc, ◌<◌, ◌==◌, ◌&&◌, not, Bool, true, false, if◌then◌else◌, List, [], ◌∷◌, ◌++◌, Option, Some, None, Ok, Err, inl, inr, refl, sym, ap, ◌∙◌, subst, arith, nat_lt, ◌||◌, AllByRecursion, eqb-true, eq-eqb, and_from, or_cases, or_right, lt-ltb, le-leb, true≢false, false_from_ne_true, not-false, recursion_from_All, All-from_recursion, common_steps, RawOpening, SignedTx, Links, RootCall, CoinView, tip_of, coin_at, some_same, Tests, Rules, spends, Bundle, HistoryRefusal, AreRising, is_committed, opens_block, is_absent, transfer_of, links_in, links_of, AreLinked, IsHistory, Cause, first_cause, is_asked, opening_at, missing, opening_causes, links_before, link_causes, failure_in, lowest_failure, above, unless_failed, may_be_tip, checked, history_of, OnlyHistoriesPass, HistoriesPass}
+use Rattle.coin_history.proofs.HistoryOpenings.{Up, lowest-none, lowest-none_from, Up, up-rising, up-each, each-found, found-each, above-block, found-below, asked-parts, AreAsked, are-asked, nothing-asked, blocks-from_asked, asked-from_blocks, found-block, rising-up}
+use Rattle.coin_history.proofs.HistoryLinks.{every-weaker, tip_from, tip-is, absent-none, none-linked, IsLeaf, IsNext, IsSome, linked, are-next, tip-reached, tip-found}
 
 -- ---- causes
 
@@ -61,21 +40,6 @@ none-from_right tests rules log tip links o right = grind (arith, common_steps, 
 pub missing-none : (asked : Bool) (n : ℕ) → missing asked n ≡ None → asked ≡ false
 missing-none true n is = absurd (cc is)
 missing-none false n is = refl
-
--- what is wrong at the block of an opening of rising ones, and at a block between two that follow each other
-pub failure-at : (tests : Tests) (rules : Rules) (log : List RootCall) (tip : ℕ) (links : Links)
-    (front : List RawOpening) (o : RawOpening) (rest : List RawOpening) → AreRising (front ++ o ∷ rest)
-    → links.spends ≡ links_in rules links.coin (front ++ o ∷ rest)
-    → failure_in tests rules log tip links o.block (opening_at (front ++ o ∷ rest) o.block)
-    ≡ first_cause (opening_causes tests log links.coin (is_asked log links.deposit tip o.block) o
-    ++ link_causes tests rules tip (record links { spends = links_in rules links.coin front }) o)
-failure-at tests rules log tip links front o rest rising is =
-    ap (failure_in tests rules log tip links o.block) (opening-own front o rest rising)
-    ∙ ap (λ (l : List Link). first_cause
-    (opening_causes tests log links.coin (is_asked log links.deposit tip o.block) o
-    ++ link_causes tests rules tip (record links { spends = l }) o))
-    (ap (filter (λ (link : Link). nat_lt link.block o.block)) is
-    ∙ links_before-front rules links.coin front o rest rising)
 
 -- ---- a history that is found
 

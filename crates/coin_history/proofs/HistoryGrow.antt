@@ -1,29 +1,6 @@
 -- Histories stay as the log grows, determine their links, and have beginnings.
-use Rattle.std.proofs.Common.{◌≡◌, ℕ, zero, suc, ◌+◌, ◌<◌, ◌≤◌, Bool, true, false, if◌then◌else◌, List, [], ◌∷◌, length, take, Option, Some, None, inl, inr, refl, sym, ap, ◌∙◌, subst, filter, arith}
-use Rattle.std.specs.Prelude.{nat_le}
-use Rattle.std.specs.Option.{option_map, option_and_then}
-use Rattle.std.specs.List.{AllByRecursion, cons_option, range_with_len}
-use Rattle.std.proofs.lemmas.Bool.{cases_eq, eq-eqb, ne_eqb, le-leb, leb-true, leb-false, true≢false, false_from_ne_true}
-use Rattle.std.proofs.lemmas.List.Elements.{All-filter}
-use Rattle.std.proofs.lemmas.Grind.{common_steps}
-use Rattle.plasma_tx.specs.declared.owner.Owner.{Owner}
-use Rattle.plasma_tx.specs.declared.opening.RawOpening.{RawOpening}
-use Rattle.plasma_tx.specs.declared.signed_tx.SignedTx.{SignedTx}
-use Rattle.plasma_tx.specs.declared.links.Link.{Link}
-use Rattle.plasma_tx.specs.declared.links.Links.{Links}
-use Rattle.plasma_tx.specs.declared.call.RootCall.{RootCall}
-use Rattle.plasma_tx.specs.declared.call.RootCall.TheVariants.{Deposit, Commit}
-use Rattle.plasma_tx.specs.declared.views.BlockView.{BlockView}
-use Rattle.plasma_tx.specs.declared.views.CoinView.{CoinView}
-use Rattle.plasma_tx.specs.Links.{tip_of}
-use Rattle.plasma_tx.specs.Views.{blocks, coins, block_at, coin_at}
-use Rattle.plasma_tx.proofs.Names.{some_same}
-use Rattle.plasma_tx.specs.Shown.{Tests, Rules, root_in, root_at}
+use Rattle.coin_history.proofs.Words.{◌≡◌, ℕ, zero, suc, ◌+◌, ◌<◌, ◌≤◌, Bool, true, false, if◌then◌else◌, List, [], ◌∷◌, length, take, Option, Some, None, inl, inr, refl, sym, ap, ◌∙◌, subst, filter, arith, nat_le, option_map, option_and_then, AllByRecursion, cons_option, range_with_len, cases_eq, eq-eqb, ne_eqb, le-leb, leb-true, leb-false, true≢false, false_from_ne_true, All-filter, common_steps, Owner, RawOpening, SignedTx, Link, Links, RootCall, Deposit, Commit, BlockView, CoinView, tip_of, blocks, coins, block_at, coin_at, some_same, Tests, Rules, root_in, root_at, Bundle, is_committed, committed_blocks, opens_block, transfer_of, links_in, links_of, AreLinked, IsHistory, is_asked, opening_at, HistoriesHaveOneMeaning, HistoriesStay, AbsencesStay, first_links, up_to, HistoriesHaveBeginnings}
 use Rattle.plasma_tx.proofs.Bounds.{coin_at-le}
-use Rattle.coin_history.specs.declared.bundle.Bundle.{Bundle}
-use Rattle.coin_history.specs.History.{is_committed, committed_blocks, opens_block, transfer_of, links_in, links_of, AreLinked, IsHistory}
-use Rattle.coin_history.specs.Checking.{is_asked, opening_at}
-use Rattle.coin_history.specs.Laws.{HistoriesHaveOneMeaning, HistoriesStay, AbsencesStay, first_links, up_to, HistoriesHaveBeginnings}
 use Rattle.coin_history.proofs.HistoryOpenings.{Up, up-each, up-weaker, past-head, found-each, asked-parts, asked-from, AreAsked, blocks-from_asked, asked-from_blocks}
 use Rattle.coin_history.proofs.HistoryLinks.{every-weaker, tip_from, tip-is, with_tx, links-block, tip-found, IsLeaf}
 

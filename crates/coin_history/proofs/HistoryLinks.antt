@@ -1,23 +1,6 @@
 -- The links that openings show, those before an opening, and where they end.
-use Rattle.std.proofs.Common.{◌≡◌, ℕ, suc, ◌-◌, ◌<◌, ◌≤◌, ◌==◌, not, Bool, true, false, if◌then◌else◌, List, [], ◌∷◌, ◌++◌, length, Option, Some, None, inl, inr, refl, sym, ap, ◌∙◌, subst, filter, arith}
-use Rattle.std.specs.Prelude.{is_some, nat_lt, slice_get, ◌||◌, ◌⊎◌}
-use Rattle.std.specs.Option.{option_map, option_map_or}
-use Rattle.std.specs.List.{AllByRecursion, cons_option}
-use Rattle.std.proofs.lemmas.Bool.{eqb-true, eq-eqb, ne_eqb, lt-ltb, le-ltb, true≢false}
-use Rattle.std.proofs.lemmas.List.Elements.{filter_map-append}
-use Rattle.std.proofs.lemmas.Grind.{common_steps}
-use Rattle.plasma_tx.specs.declared.owner.Owner.{Owner}
-use Rattle.plasma_tx.specs.declared.opening.RawOpening.{RawOpening}
-use Rattle.plasma_tx.specs.declared.signed_tx.SignedTx.{SignedTx}
-use Rattle.plasma_tx.specs.declared.links.Link.{Link}
-use Rattle.plasma_tx.specs.declared.links.Links.{Links}
-use Rattle.plasma_tx.specs.Links.{tip_of, last_owner_of}
-use Rattle.plasma_tx.proofs.Leaves.{empty-none}
-use Rattle.plasma_tx.specs.Shown.{Tests, Rules, spends, signs}
-use Rattle.coin_history.specs.Bundles.{AreRising}
-use Rattle.coin_history.specs.History.{is_empty, is_absent, transfer_of, link_of, links_in, AreLinked}
-use Rattle.coin_history.specs.Checking.{opening_at, links_before, is_next, is_next_signed}
-use Rattle.coin_history.proofs.HistoryOpenings.{up-front, up-rest, Up, up-rising, up-each, found-cases, at-head, past-head, below-none}
+use Rattle.coin_history.proofs.Words.{◌≡◌, ℕ, suc, ◌-◌, ◌<◌, ◌≤◌, ◌==◌, not, Bool, true, false, if◌then◌else◌, List, [], ◌∷◌, ◌++◌, length, Option, Some, None, inl, inr, refl, sym, ap, ◌∙◌, subst, filter, arith, is_some, nat_lt, slice_get, ◌||◌, ◌⊎◌, option_map, option_map_or, AllByRecursion, cons_option, eqb-true, eq-eqb, ne_eqb, lt-ltb, le-ltb, true≢false, common_steps, Owner, RawOpening, SignedTx, Link, Links, tip_of, last_owner_of, empty-none, Tests, Rules, spends, signs, is_empty, is_absent, transfer_of, links_in, AreLinked, opening_at, links_before, is_next, is_next_signed}
+use Rattle.coin_history.proofs.HistoryOpenings.{Up, up-each, found-cases, at-head, past-head, below-none}
 
 -- ---- lists
 
@@ -90,21 +73,6 @@ filter-split : (n : ℕ) (xs ys : List Link) → AllByRecursion (λ link. link.b
 filter-split n [] [] low high = refl
 filter-split n [] (y ∷ ys) low high = grind (arith, common_steps, filter-split n [] ys tt high.1, le-ltb) steps 20000
 filter-split n (x ∷ xs) ys low high = grind (arith, common_steps, filter-split n xs ys low.1 high, lt-ltb) steps 20000
-
--- the links before an opening of rising ones are those that the openings before it show
-pub links_before-front : (rules : Rules) (coin : ℕ) (front : List RawOpening) (o : RawOpening)
-    (rest : List RawOpening) → AreRising (front ++ o ∷ rest)
-    → filter (λ link. nat_lt link.block o.block) (links_in rules coin (front ++ o ∷ rest)) ≡ links_in rules coin front
-unfolding links_in
-links_before-front rules coin front o rest rising =
-    let up = up-rising (front ++ o ∷ rest) rising in
-    ap (filter (λ link. nat_lt link.block o.block)) (filter_map-append (link_of rules coin) front (o ∷ rest))
-    ∙ filter-split o.block (links_in rules coin front) (links_in rules coin (o ∷ rest))
-    (links-block rules coin (λ n. n < o.block) front (up-front 0 front o rest up))
-    (links-block rules coin (λ n. o.block ≤ n) (o ∷ rest) (
-      omega arith,
-      grind (arith, common_steps, every-weaker, up-each, up-rest) steps 20000,
-    ))
 
 -- ---- openings that are next
 

@@ -1,18 +1,5 @@
 -- Openings whose blocks rise, the opening of a block, and the lowest failure.
-use Rattle.std.proofs.Common.{◌≡◌, ℕ, zero, suc, ◌+◌, ◌-◌, ◌<◌, ◌≤◌, Bool, true, false, if◌then◌else◌, List, [], ◌∷◌, ◌++◌, length, get_or, Option, Some, None, inl, inr, refl, sym, ap, ◌∙◌, subst, filter, arith}
-use Rattle.std.specs.Prelude.{◌⊎◌}
-use Rattle.std.specs.Option.{option_or}
-use Rattle.std.specs.List.{AllByRecursion, range_with_len}
-use Rattle.std.proofs.lemmas.Bool.{cases_eq, eq-eqb, ne_eqb, and_parts, and_from, ltb-true, lt-ltb, leb-true, le-leb, true≢false, false_from_ne_true}
-use Rattle.std.proofs.lemmas.List.Elements.{recursion_from_All}
-use Rattle.std.proofs.lemmas.Grind.{common_steps}
-use Rattle.plasma_tx.specs.declared.opening.RawOpening.{RawOpening}
-use Rattle.plasma_tx.specs.declared.call.RootCall.{RootCall}
-use Rattle.plasma_tx.proofs.Names.{some_same, option_or-none}
-use Rattle.coin_history.specs.declared.refusal.HistoryRefusal.{HistoryRefusal}
-use Rattle.coin_history.specs.Bundles.{AreRising}
-use Rattle.coin_history.specs.History.{is_committed, committed_blocks, blocks_of}
-use Rattle.coin_history.specs.Checking.{is_asked, opening_at, lowest_failure, above}
+use Rattle.coin_history.proofs.Words.{◌≡◌, ℕ, zero, suc, ◌+◌, ◌-◌, ◌<◌, ◌≤◌, Bool, true, false, if◌then◌else◌, List, [], ◌∷◌, length, get_or, Option, Some, None, inl, inr, refl, sym, ap, ◌∙◌, subst, filter, arith, ◌⊎◌, option_or, AllByRecursion, range_with_len, cases_eq, eq-eqb, ne_eqb, and_parts, and_from, ltb-true, lt-ltb, leb-true, le-leb, true≢false, false_from_ne_true, recursion_from_All, common_steps, RawOpening, RootCall, some_same, HistoryRefusal, AreRising, is_committed, committed_blocks, blocks_of, is_asked, opening_at, lowest_failure, above}
 
 -- ---- the lowest failure
 
@@ -76,26 +63,6 @@ lowest-some_from failure (suc n) m why less fails first =
       | inr apart ↦ grind (arith, common_steps, lowest-some_from failure n m why (omega arith) fails first) steps 20000
     ]
 
--- failures that agree below n have the same lowest one
-pub lowest-same : (failure other : ℕ → Option HistoryRefusal) (n : ℕ)
-    → ((m : ℕ) → m < n → failure m ≡ other m) → lowest_failure failure n ≡ lowest_failure other n
-unfolding lowest_failure
-lowest-same failure other zero same = refl
-lowest-same failure other (suc n) same =
-    let before = lowest-same failure other n (λ m less. same m (omega arith)) in
-    grind (arith, common_steps) steps 20000
-
--- where nothing fails from k on, any larger number has the lowest failure of k
-pub lowest-more : (failure : ℕ → Option HistoryRefusal) (k n : ℕ) → k ≤ n
-    → ((m : ℕ) → k ≤ m → failure m ≡ None) → lowest_failure failure n ≡ lowest_failure failure k
-unfolding lowest_failure
-lowest-more failure k zero le none = let e : zero ≡ k = omega arith in ap (lowest_failure failure) e
-lowest-more failure k (suc n) le none =
-    elim (cases_eq k (suc n)) [
-      | inl e ↦ ap (lowest_failure failure) (sym e)
-      | inr apart ↦ grind (arith, common_steps, lowest-more failure k n (omega arith) none, option_or-none) steps 20000
-    ]
-
 -- ---- rising blocks
 
 -- the blocks rise strictly, the first one at low or above
@@ -150,23 +117,6 @@ rising-up low (o ∷ os) up zero (suc j) d less long = after os (up-each (suc o.
 rising-up low (o ∷ os) up (suc i) (suc j) d less long =
     rising-up (suc o.block) os up.1 i j d (omega arith) (omega arith)
 
--- those before an opening are below it, and those after it above
-up-least : (low : ℕ) (front : List RawOpening) (o : RawOpening) (rest : List RawOpening) → Up low (front ++ o ∷ rest)
-    → low ≤ o.block
-up-least low [] o rest up = up.0
-up-least low (x ∷ front) o rest up = omega (arith, up.0, up-least (suc x.block) front o rest up.1)
-
-pub up-front : (low : ℕ) (front : List RawOpening) (o : RawOpening) (rest : List RawOpening)
-    → Up low (front ++ o ∷ rest) → AllByRecursion (λ x. x.block < o.block) front
-up-front low [] o rest up = tt
-up-front low (x ∷ front) o rest up =
-    (omega (arith, up-least (suc x.block) front o rest up.1), up-front (suc x.block) front o rest up.1)
-
-pub up-rest : (low : ℕ) (front : List RawOpening) (o : RawOpening) (rest : List RawOpening)
-    → Up low (front ++ o ∷ rest) → Up (suc o.block) rest
-up-rest low [] o rest up = up.1
-up-rest low (x ∷ front) o rest up = up-rest (suc x.block) front o rest up.1
-
 -- ---- the opening of a block
 
 pub at-head : (n : ℕ) (o : RawOpening) (os : List RawOpening) → o.block ≡ n → opening_at (o ∷ os) n ≡ Some o
@@ -214,38 +164,6 @@ found-block [] n x found = absurd (cc found)
 found-block (o ∷ os) n x found = elim (found-cases n o os x found) [
   | inl here ↦ ap (λ (y : RawOpening). y.block) (sym here.1) ∙ here.0
   | inr later ↦ found-block os n x later.1
-]
-
--- the opening of a list of rising ones is found at its block
-pub own-found : (low : ℕ) (front : List RawOpening) (o : RawOpening) (rest : List RawOpening)
-    → Up low (front ++ o ∷ rest) → opening_at (front ++ o ∷ rest) o.block ≡ Some o
-own-found low [] o rest up = at-head o.block o rest refl
-own-found low (x ∷ front) o rest up =
-    grind (arith, common_steps, own-found (suc x.block) front o rest up.1, past-head, below-none) steps 20000
-
-pub opening-own : (front : List RawOpening) (o : RawOpening) (rest : List RawOpening)
-    → AreRising (front ++ o ∷ rest) → opening_at (front ++ o ∷ rest) o.block ≡ Some o
-opening-own front o rest rising = own-found 0 front o rest (up-rising (front ++ o ∷ rest) rising)
-
--- and none where no opening is of the block
-pub opening-none : (n : ℕ) (openings : List RawOpening) → AllByRecursion (λ o. o.block ≡ n → ⊥) openings
-    → opening_at openings n ≡ None
-opening-none n [] all = refl
-opening-none n (o ∷ os) all = past-head n o os all.0 ∙ opening-none n os all.1
-
--- so there is none between two that follow each other
-pub opening-between : (front rest : List RawOpening) (n : ℕ) → AllByRecursion (λ o. o.block < n) front
-    → Up (suc n) rest → opening_at (front ++ rest) n ≡ None
-opening-between [] rest n less up = below-none (suc n) rest up n (omega arith)
-opening-between (o ∷ front) rest n less up =
-    past-head n o (front ++ rest) (λ e. omega (arith, less.0)) ∙ opening-between front rest n less.1 up
-
-pub none-apart : (n : ℕ) (openings : List RawOpening) → opening_at openings n ≡ None
-    → AllByRecursion (λ o. o.block ≡ n → ⊥) openings
-none-apart n [] none = tt
-none-apart n (o ∷ os) none = elim (cases_eq o.block n) [
-  | inl e ↦ absurd (cc (at-head n o os e, none))
-  | inr apart ↦ (apart, none-apart n os (sym (past-head n o os apart) ∙ none))
 ]
 
 -- ---- the number above all

@@ -1,22 +1,6 @@
 -- A reader, a history and absences are refused by their own refusals alone.
-use Rattle.std.proofs.Common.{◌≡◌, ℕ, zero, suc, ◌+◌, ◌==◌, Bool, true, false, if◌then◌else◌, List, [], ◌∷◌, ◌++◌, length, Option, Some, None, Ok, Err, refl, sym, ap, ◌∙◌, arith}
+use Rattle.coin_history.proofs.Words.{◌≡◌, ℕ, zero, suc, ◌+◌, ◌==◌, Bool, true, false, if◌then◌else◌, List, [], ◌∷◌, ◌++◌, length, Option, Some, None, Ok, Err, refl, sym, ap, ◌∙◌, arith, AllByRecursion, true≢false, common_steps, RawOpening, Links, RootCall, number_at, coin_at, Tests, Rules, Bundle, HistoryRefusal, BadBundle, NoCoin, UnknownBlock, MissingBlock, NotAbsent, NoMemory, length_at, Items, with_item, items_in, bundle_of, bundle_in, is_absent, links_of, Cause, first_cause, is_asked, opening_at, missing, opening_causes, links_before, link_causes, failure_in, lowest_failure, above, unless_failed, may_be_tip, checked, where_made, history_of, failure_of_absence, absence_of, is_of_reader, is_of_history, is_of_absence, ReadersRefusals, HistoriesRefusals, AbsencesRefusals}
 use Rattle.std.specs.Prelude.{Result, nat_lt, not, slice_range}
-use Rattle.std.specs.List.{AllByRecursion}
-use Rattle.std.proofs.lemmas.Bool.{true≢false}
-use Rattle.std.proofs.lemmas.Grind.{common_steps}
-use Rattle.plasma_tx.specs.declared.opening.RawOpening.{RawOpening}
-use Rattle.plasma_tx.specs.declared.links.Links.{Links}
-use Rattle.plasma_tx.specs.declared.call.RootCall.{RootCall}
-use Rattle.plasma_tx.specs.Spelling.{number_at}
-use Rattle.plasma_tx.specs.Views.{coin_at}
-use Rattle.plasma_tx.specs.Shown.{Tests, Rules}
-use Rattle.coin_history.specs.declared.bundle.Bundle.{Bundle}
-use Rattle.coin_history.specs.declared.refusal.HistoryRefusal.{HistoryRefusal}
-use Rattle.coin_history.specs.declared.refusal.HistoryRefusal.TheVariants.{BadBundle, NoCoin, UnknownBlock, MissingBlock, NotAbsent, NoMemory}
-use Rattle.coin_history.specs.Bundles.{length_at, Items, with_item, items_in, bundle_of, bundle_in}
-use Rattle.coin_history.specs.History.{is_absent, links_of}
-use Rattle.coin_history.specs.Checking.{Cause, first_cause, is_asked, opening_at, missing, opening_causes, links_before, link_causes, failure_in, lowest_failure, above, unless_failed, may_be_tip, checked, where_made, history_of, failure_of_absence, absence_of}
-use Rattle.coin_history.specs.Laws.{is_of_reader, is_of_history, is_of_absence, ReadersRefusals, HistoriesRefusals, AbsencesRefusals}
 use Rattle.coin_history.proofs.HistoryOpenings.{lowest-some}
 
 module _ (own : HistoryRefusal → Bool) where

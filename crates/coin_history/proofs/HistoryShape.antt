@@ -1,17 +1,6 @@
 -- The links of a history rise from its deposit on, its tip is a link, and with the deposit as tip it is bare.
-use Rattle.std.proofs.Common.{◌≡◌, ℕ, suc, ◌<◌, ◌≤◌, true, false, List, [], ◌∷◌, map, sym, ap, ◌∙◌, subst, arith}
-use Rattle.std.specs.List.{AllPairs, AllByRecursion}
-use Rattle.std.proofs.lemmas.Bool.{false_from_ne_true}
-use Rattle.std.proofs.lemmas.List.Elements.{All-from_recursion}
+use Rattle.coin_history.proofs.Words.{◌≡◌, ℕ, suc, ◌<◌, ◌≤◌, true, false, List, [], ◌∷◌, map, sym, ap, ◌∙◌, subst, arith, AllPairs, AllByRecursion, false_from_ne_true, All-from_recursion, common_steps, RawOpening, Link, Links, tip_of, Rules, is_absent, links_in, links_of, LinksRise, DepositsAreBare, TipsAreLinks}
 use Rattle.std.proofs.lemmas.List.Kept.{AllPairs-cons}
-use Rattle.std.proofs.lemmas.Grind.{common_steps}
-use Rattle.plasma_tx.specs.declared.opening.RawOpening.{RawOpening}
-use Rattle.plasma_tx.specs.declared.links.Link.{Link}
-use Rattle.plasma_tx.specs.declared.links.Links.{Links}
-use Rattle.plasma_tx.specs.Links.{tip_of}
-use Rattle.plasma_tx.specs.Shown.{Rules}
-use Rattle.coin_history.specs.History.{is_absent, links_in, links_of}
-use Rattle.coin_history.specs.Laws.{LinksRise, DepositsAreBare, TipsAreLinks}
 use Rattle.coin_history.proofs.HistoryOpenings.{Up, nothing-asked, asked-from_blocks}
 use Rattle.coin_history.proofs.HistoryLinks.{every-weaker, tip-is, with_tx, none-linked}
 use Rattle.coin_history.proofs.HistoryFound.{absent-apart}

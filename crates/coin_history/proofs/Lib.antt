@@ -1,3 +1,4 @@
+pub mod Words
 pub mod BundleItems
 pub mod FirstItems
 pub mod BundleLaws

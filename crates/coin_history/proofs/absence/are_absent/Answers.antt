@@ -1,7 +1,4 @@
-use Rattle.std.proofs.Common.{◌≡◌, Err, sym, ap, ◌∙◌}
-use Rattle.std.proofs.lemmas.Result.{err_from_is_err_and}
-use Rattle.plasma_tx.specs.Shown.{tests_by}
-use Rattle.coin_history.specs.declared.refusal.HistoryRefusal.TheVariants.{NoMemory}
+use Rattle.coin_history.proofs.Words.{◌≡◌, Err, sym, ap, ◌∙◌, err_from_is_err_and, tests_by, NoMemory}
 use Rattle.coin_history.proofs.CheckFacts.{refusal-same}
 use Rattle.coin_history.proofs.CheckAbsences.{cleared-start, cleared-missing, cleared-looked, cleared-unopened, cleared-present, cleared-next, cleared-behind, cleared-end}
 use Rattle.coin_history.proofs.absence.are_absent.Goals as goal

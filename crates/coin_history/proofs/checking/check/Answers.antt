@@ -1,7 +1,4 @@
-use Rattle.std.proofs.Common.{List, ℕ, ◌∙◌, ap, subst}
-use Rattle.plasma_tx.specs.Shown.{tests_by, rules_of}
-use Rattle.coin_history.specs.History.{tagged}
-use Rattle.coin_history.specs.Checking.{history_of, LooksAtHistory}
+use Rattle.coin_history.proofs.Words.{List, ℕ, ◌∙◌, ap, subst, tests_by, rules_of, tagged, history_of, LooksAtHistory}
 use Rattle.coin_history.proofs.CheckFacts.{tagged-same, tagged-looks}
 use Rattle.coin_history.proofs.checking.check.Goals as goal
 

@@ -1,8 +1,4 @@
-use Rattle.std.proofs.Common.{◌≡◌, sym, ap, ◌∙◌}
-use Rattle.std.proofs.lemmas.Bool.{true≢false}
-use Rattle.plasma_tx.specs.declared.views.CoinView.{CoinView}
-use Rattle.plasma_tx.proofs.Names.{some_same}
-use Rattle.coin_history.specs.Checking.{may_be_tip}
+use Rattle.coin_history.proofs.Words.{◌≡◌, sym, ap, ◌∙◌, true≢false, CoinView, some_same, may_be_tip}
 use Rattle.coin_history.proofs.CheckFacts.{tip-made}
 use Rattle.coin_history.proofs.checking.check_tagged.Goals as goal
 

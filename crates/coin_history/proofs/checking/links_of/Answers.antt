@@ -1,9 +1,4 @@
-use Rattle.std.proofs.Common.{◌≡◌, Err, sym, ap, ◌∙◌}
-use Rattle.std.proofs.lemmas.Result.{err_from_is_err_and}
-use Rattle.plasma_tx.specs.Shown.{tests_by}
-use Rattle.coin_history.specs.declared.refusal.HistoryRefusal.TheVariants.{NoMemory}
-use Rattle.coin_history.specs.History.{leaf_of_opening, tagged}
-use Rattle.coin_history.specs.Checking.{is_asked}
+use Rattle.coin_history.proofs.Words.{◌≡◌, Err, sym, ap, ◌∙◌, err_from_is_err_and, NoMemory, tagged, tests_by, is_asked, leaf_of_opening}
 use Rattle.coin_history.proofs.CheckFacts.{refusal-same, opened-asked}
 use Rattle.coin_history.proofs.CheckLinks.{walked-start, walked-missing, walked-looked, walked-unopened, walked-unlinked, walked-next, walked-behind, walked-end}
 use Rattle.coin_history.proofs.checking.links_of.Goals as goal

@@ -1,5 +1,4 @@
-use Rattle.plasma_tx.specs.Shown.{tests_by}
-use Rattle.coin_history.specs.History.{tagged}
+use Rattle.coin_history.proofs.Words.{tests_by, tagged}
 use Rattle.coin_history.proofs.CheckLinks.{Walked}
 use Rattle.coin_history.proofs.checking.links_of.Given as goal
 

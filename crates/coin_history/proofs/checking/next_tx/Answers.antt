@@ -1,10 +1,4 @@
-use Rattle.std.proofs.Common.{true, false, refl, sym, ap, ◌∙◌}
-use Rattle.std.proofs.lemmas.Bool.{eq-eqb, ne_eqb}
-use Rattle.plasma_tx.specs.Links.{tip_of}
-use Rattle.plasma_tx.specs.Transfer.{is_signed_by}
-use Rattle.plasma_tx.specs.Shown.{tests_by, spends}
-use Rattle.coin_history.specs.History.{tagged}
-use Rattle.coin_history.specs.Inside.{links_with}
+use Rattle.coin_history.proofs.Words.{true, false, refl, sym, ap, ◌∙◌, eq-eqb, ne_eqb, tip_of, is_signed_by, tests_by, spends, tagged, links_with}
 use Rattle.coin_history.proofs.CheckFacts.{absent-from}
 use Rattle.coin_history.proofs.CheckLinks.{transfer-from, next-absent, next-apart, next-unsigned, next-link}
 use Rattle.coin_history.proofs.checking.next_tx.Goals as goal

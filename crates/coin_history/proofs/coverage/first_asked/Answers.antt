@@ -1,6 +1,4 @@
-use Rattle.std.proofs.Common.{inl, inr, arith, ap, ◌∙◌, sym}
-use Rattle.std.proofs.lemmas.Bool.{cases_eq, cases_lt}
-use Rattle.coin_history.specs.Checking.{is_asked}
+use Rattle.coin_history.proofs.Words.{inl, inr, arith, ap, ◌∙◌, sym, cases_eq, cases_lt, is_asked}
 use Rattle.coin_history.proofs.CheckFacts.{asked-low, asked-high}
 use Rattle.coin_history.proofs.coverage.first_asked.Goals as goal
 

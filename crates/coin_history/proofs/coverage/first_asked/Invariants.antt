@@ -1,5 +1,4 @@
-use Rattle.coin_history.specs.Checking.{is_asked}
-use Rattle.coin_history.specs.Inside.{NoneIsAsked}
+use Rattle.coin_history.proofs.Words.{is_asked, NoneIsAsked}
 use Rattle.coin_history.proofs.coverage.first_asked.Given as goal
 
 abbrev pub invariant-loop-n : goal.invariant-loop-n

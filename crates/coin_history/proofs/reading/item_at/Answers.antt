@@ -1,7 +1,4 @@
-use Rattle.std.proofs.Common.{◌≡◌, ◌≤◌, ◌<◌, ℕ, Bool, false, IsTrue, ◌↔◌, inl, inr, arith}
-use Rattle.std.proofs.lemmas.Bool.{cases_lt, both_ways}
-use Rattle.std.proofs.lemmas.Result.{err_from_is_err_and}
-use Rattle.plasma_tx.specs.Spelling.{number_at}
+use Rattle.coin_history.proofs.Words.{◌≡◌, ◌≤◌, ◌<◌, ℕ, Bool, false, IsTrue, ◌↔◌, inl, inr, arith, cases_lt, both_ways, err_from_is_err_and, number_at}
 use Rattle.coin_history.proofs.BundleItems.{low_of, first-no_block, first-fallen, first-no_length, first-no_bytes, first-item}
 use Rattle.coin_history.proofs.reading.item_at.Goals as goal
 

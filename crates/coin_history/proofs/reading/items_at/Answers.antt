@@ -1,5 +1,5 @@
 use Rattle.std.proofs.lemmas.Result.{err_from_is_err_and}
-use Rattle.coin_history.proofs.BundleItems.{low_of, HaveRead-more, HaveRead-refused, HaveRead-all, HaveRead-whole}
+use Rattle.coin_history.proofs.BundleItems.{HaveRead-more, HaveRead-refused, HaveRead-all, HaveRead-whole, low_of}
 use Rattle.coin_history.proofs.HistoryRefusals.{item-own}
 use Rattle.coin_history.proofs.reading.items_at.Goals as goal
 

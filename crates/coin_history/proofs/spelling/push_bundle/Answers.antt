@@ -1,8 +1,4 @@
-use Rattle.std.proofs.Common.{◌++◌, length}
-use Rattle.std.specs.List.{flat_map}
-use Rattle.std.proofs.lemmas.Result.{IfOk-equal}
-use Rattle.plasma_tx.specs.Spelling.{number_text}
-use Rattle.coin_history.specs.Bundles.{length_text, item_text, bundle_text}
+use Rattle.coin_history.proofs.Words.{◌++◌, length, flat_map, IfOk-equal, length_text, item_text, bundle_text}
 use Rattle.coin_history.proofs.BundleItems.{front_kept, header_put, bundle_put}
 use Rattle.coin_history.proofs.spelling.push_bundle.Goals as goal
 
@@ -11,9 +7,8 @@ returns-clause-ok c =
     let out = c.args.out.now.items in
     let bundle = c.args.bundle.now in
     let openings = c.as_slice-openings.result.now in
-    let header = header_put out c.put_u64.new.out.items c.put_u64-2.new.out.items c.put_u32.new.out.items
-    (number_text bundle.coin) (number_text bundle.tip) (length_text (length openings)) c.in_ok-put_u64.ensures.ok
-    c.in_ok-put_u64-2.ensures.ok c.in_ok-put_u32.ensures.ok in
+    let header = header_put _ _ _ _ _ _ _ c.in_ok-put_u64.ensures.ok c.in_ok-put_u64-2.ensures.ok
+    c.in_ok-put_u32.ensures.ok in
     IfOk-equal c.push_items.result c.push_items.new.out.items (c.put_u32.new.out.items ++ flat_map item_text openings)
     (out ++ bundle_text bundle) c.push_items.ensures.ok
     (bundle_put out c.put_u32.new.out.items bundle openings c.as_slice-openings.ensures header)
@@ -23,8 +18,6 @@ returns-clause-front c =
     let out = c.args.out.now.items in
     let bundle = c.args.bundle.now in
     let count = length_text (length c.as_slice-openings.result.now) in
-    front_kept out c.put_u32.new.out.items c.push_items.new.out.items
-    (number_text bundle.coin ++ number_text bundle.tip ++ count)
-    (header_put out c.put_u64.new.out.items c.put_u64-2.new.out.items c.put_u32.new.out.items
-    (number_text bundle.coin) (number_text bundle.tip) count c.in_ok-put_u64.ensures.ok c.in_ok-put_u64-2.ensures.ok
-    c.in_ok-put_u32.ensures.ok) c.push_items.ensures.front
+    front_kept _ _ _ _
+    (header_put _ _ _ _ _ _ _ c.in_ok-put_u64.ensures.ok c.in_ok-put_u64-2.ensures.ok c.in_ok-put_u32.ensures.ok)
+    c.push_items.ensures.front

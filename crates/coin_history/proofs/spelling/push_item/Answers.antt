@@ -1,6 +1,4 @@
-use Rattle.std.proofs.Common.{◌≡◌, ℕ, List, ◌++◌, length, ap, ◌∙◌, append_assoc}
-use Rattle.plasma_tx.specs.Spelling.{number_text}
-use Rattle.coin_history.specs.Bundles.{length_text}
+use Rattle.coin_history.proofs.Words.{◌≡◌, ℕ, List, ◌++◌, length, ap, ◌∙◌, append_assoc, number_text, length_text}
 use Rattle.coin_history.proofs.spelling.push_item.Goals as goal
 
 pushed : (out one two last : List ℕ) (block count : ℕ) (bytes : List ℕ) → one ≡ out ++ number_text block

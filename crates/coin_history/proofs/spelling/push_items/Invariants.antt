@@ -1,6 +1,4 @@
-use Rattle.std.proofs.Common.{◌≡◌, ◌++◌, take}
-use Rattle.std.specs.List.{flat_map}
-use Rattle.coin_history.specs.Bundles.{item_text}
+use Rattle.coin_history.proofs.Words.{◌≡◌, ◌++◌, take, flat_map, item_text}
 use Rattle.coin_history.proofs.spelling.push_items.Given as goal
 
 abbrev pub invariant-loop-opening : goal.invariant-loop-opening

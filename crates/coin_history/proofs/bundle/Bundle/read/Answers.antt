@@ -1,8 +1,5 @@
-use Rattle.std.proofs.Common.{◌≡◌, ◌<◌, ◌≤◌, length, Err, sym, ap, ◌∙◌, arith}
-use Rattle.std.proofs.lemmas.Result.{err_from_is_err_and}
-use Rattle.coin_history.specs.declared.refusal.HistoryRefusal.TheVariants.{NoMemory}
+use Rattle.coin_history.proofs.Words.{◌≡◌, ◌<◌, ◌≤◌, length, Err, sym, ap, ◌∙◌, arith, err_from_is_err_and, NoMemory, All-from_get_or}
 use Rattle.coin_history.proofs.CheckFacts.{refusal-same}
-use Rattle.std.proofs.lemmas.List.Elements.{All-from_get_or}
 use Rattle.coin_history.proofs.BundleLaws.{items_in-ok, items_in-spelled}
 use Rattle.coin_history.proofs.bundle.Bundle.read.Goals as goal
 
