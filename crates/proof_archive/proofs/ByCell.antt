@@ -1,33 +1,5 @@
 -- The answers on a coin, by its cell.
-use Rattle.std.proofs.Common.{◌≡◌, ℕ, ◌==◌, Bool, true, false, if◌then◌else◌, List, [], ◌∷◌, ◌++◌, map, reverse, Option, Some, None, Ok, Err, refl, sym, ap, ◌∙◌, subst}
-use Rattle.std.specs.Prelude.{◌||◌}
-use Rattle.std.specs.List.{list_any}
-use Rattle.std.specs.Option.{option_map_or, option_and_then}
-use Rattle.std.proofs.lemmas.Bool.{eq-eqb, or_left, or_right}
-use Rattle.std.proofs.lemmas.List.{reverse-reverse}
-use Rattle.plasma_tx.specs.declared.opening.RawOpening.{RawOpening}
-use Rattle.plasma_tx.specs.declared.links.Link.{Link}
-use Rattle.plasma_tx.specs.declared.links.Links.{Links}
-use Rattle.plasma_tx.specs.declared.call.RootCall.{RootCall}
-use Rattle.plasma_tx.specs.declared.views.CoinView.{CoinView}
-use Rattle.plasma_tx.specs.Chain.{Chain}
-use Rattle.plasma_tx.specs.Links.{tip_of}
-use Rattle.plasma_tx.specs.Views.{coin_at}
-use Rattle.plasma_tx.specs.Shown.{Tests, Rules, tests_by, rules_of}
-use Rattle.coin_history.specs.declared.bundle.Bundle.{Bundle}
-use Rattle.coin_history.specs.Bundles.{AreRising}
-use Rattle.coin_history.specs.History.{IsHistory}
-use Rattle.coin_history.specs.Inside.{links_with}
-use Rattle.coin_history.proofs.HistoryLinks.{tip_from, tip-is}
-use Rattle.coin_history.proofs.HistoryFound.{histories_pass, history-rises}
-use Rattle.coin_history.proofs.HistoryGrow.{histories_stay}
-use Rattle.plasma_tx.proofs.Names.{some_same}
-use Rattle.proof_archive.specs.declared.coin.LinkEnd.{LinkEnd}
-use Rattle.proof_archive.specs.declared.refusal.ArchiveRefusal.TheVariants.{NoCoin, NotTip}
-use Rattle.proof_archive.specs.Scan.{Scan}
-use Rattle.proof_archive.specs.Archives.{scan_in, tip_answer, broken_answer, is_tip, openings_up_to, links_up_to, bundle_to, bundle_answer}
-use Rattle.proof_archive.specs.Carried.{carried_by, CoinCell, end_of, tip_in, IsCell, IsCellOf}
-use Rattle.proof_archive.specs.Laws.{StaysAHistory}
+use Rattle.proof_archive.proofs.Words.{◌≡◌, ℕ, ◌==◌, Bool, true, false, if◌then◌else◌, List, [], ◌∷◌, ◌++◌, map, reverse, Some, None, Ok, Err, sym, ap, ◌∙◌, subst, arith, ◌||◌, list_any, eq-eqb, or_left, or_right, reverse-reverse, common_steps, RawOpening, Link, Links, RootCall, CoinView, Chain, tip_of, coin_at, Tests, Rules, tests_by, rules_of, Bundle, AreRising, IsHistory, links_with, tip_from, tip-is, histories_pass, history-rises, histories_stay, some_same, LinkEnd, NoCoin, NotTip, Scan, scan_in, tip_answer, broken_answer, is_tip, openings_up_to, links_up_to, bundle_answer, carried_by, CoinCell, end_of, tip_in, IsCell, IsCellOf, StaysAHistory}
 use Rattle.proof_archive.proofs.Scans.{scan-carried, scan-broken, scan-begins}
 use Rattle.proof_archive.proofs.CellLaws.{ends-tip, ends-any}
 
@@ -53,22 +25,16 @@ module _ (dig : List ℕ → List ℕ) (chain : Chain) (coin : ℕ) where
   -- of a coin that the log doesn't have
   pub tip-none : (kept : List RawOpening) → coin_at chain.log coin ≡ None → Err NoCoin ≡ tip_answer dig chain kept coin
   unfolding tip_answer
-  tip-none kept none =
-      sym (ap (λ (o : Option CoinView). option_map_or (λ (made : CoinView).
-      Ok (tip_of (scan_in dig chain kept coin made).links)) o (Err NoCoin)) none)
+  tip-none kept none = grind (arith, common_steps) steps 20000
 
   pub bundle-none : (kept : List RawOpening) (tip : ℕ) → coin_at chain.log coin ≡ None
       → Err NoCoin ≡ bundle_answer dig chain kept coin tip
   unfolding bundle_answer
-  bundle-none kept tip none =
-      sym (ap (λ (o : Option CoinView). option_map_or (λ (made : CoinView).
-      bundle_to (scan_in dig chain kept coin made).links kept coin tip) o (Err NoCoin)) none)
+  bundle-none kept tip none = grind (arith, common_steps) steps 20000
 
   broken-none : (kept : List RawOpening) → coin_at chain.log coin ≡ None → broken_answer dig chain kept coin ≡ None
   unfolding broken_answer
-  broken-none kept none =
-      ap (λ (o : Option CoinView). option_and_then (λ (made : CoinView).
-      (scan_in dig chain kept coin made).broken) o) none
+  broken-none kept none = grind (arith, common_steps) steps 20000
 
   module _ (made : CoinView) (cell : CoinCell) (some : coin_at chain.log coin ≡ Some made)
       (is : IsCell (tests_by dig) (rules_of chain) chain.log coin made cell) where
@@ -79,37 +45,22 @@ module _ (dig : List ℕ → List ℕ) (chain : Chain) (coin : ℕ) where
     scan = scan_in dig chain cell.openings coin made
 
     found : scan.links ≡ links_with coin made spends_of
-    found = scan-carried (tests_by dig) (rules_of chain) coin made chain.log some cell.openings
-        (reverse-reverse cell.openings) is.kept
+    found = grind (arith, common_steps, scan-carried, reverse-reverse) steps 20000
 
     tip-found : tip_of scan.links ≡ tip_in made.deposit cell.ends
-    tip-found =
-        ap tip_of found ∙ tip-is (links_with coin made spends_of) ∙ sym (ends-tip made.deposit spends_of)
-        ∙ ap (tip_in made.deposit) (sym is.ends)
+    tip-found = grind (arith, common_steps, found, tip-is, ends-tip) steps 20000
 
     pub tip-some : Ok (tip_in made.deposit cell.ends) ≡ tip_answer dig chain cell.openings coin
     unfolding tip_answer
-    tip-some =
-        sym (ap (λ (o : Option CoinView). option_map_or (λ (m : CoinView).
-        Ok (tip_of (scan_in dig chain cell.openings coin m).links)) o (Err NoCoin)) some
-        ∙ ap (λ (n : ℕ). Ok n) tip-found)
+    tip-some = grind (arith, common_steps, tip-found) steps 20000
 
     broken-some : broken_answer dig chain cell.openings coin ≡ cell.broken
     unfolding broken_answer
-    broken-some =
-        ap (λ (o : Option CoinView). option_and_then (λ (m : CoinView).
-        (scan_in dig chain cell.openings coin m).broken) o) some
-        ∙ scan-broken (tests_by dig) (rules_of chain) coin made chain.log some cell.openings
-        (reverse-reverse cell.openings) is.kept
-        ∙ sym is.broken
+    broken-some = grind (arith, common_steps, scan-broken, reverse-reverse) steps 20000
 
     tips-found : (tip : ℕ) → is_tip scan.links tip
         ≡ ((made.deposit == tip) || list_any (λ (end : LinkEnd). end.block == tip) cell.ends)
-    tips-found tip =
-        ap (λ (l : Links). is_tip l tip) found
-        ∙ ap (λ (b : Bool). (made.deposit == tip) || b) (sym (ends-any tip spends_of))
-        ∙ ap (λ (ends : List LinkEnd). (made.deposit == tip) || list_any (λ (end : LinkEnd). end.block == tip) ends)
-        (sym is.ends)
+    tips-found tip = grind (arith, common_steps, found, ends-any) steps 20000
 
     abbrev bundle_up : ℕ → Bundle
     bundle_up tip = record { coin = coin; tip = tip; openings = openings_up_to tip cell.openings }
@@ -119,10 +70,7 @@ module _ (dig : List ℕ → List ℕ) (chain : Chain) (coin : ℕ) where
         → bundle_answer dig chain cell.openings coin tip
         ≡ (if b then Ok (bundle_up tip) else Err (NotTip tip))
     unfolding bundle_answer
-    bundle-is tip b at =
-        ap (λ (o : Option CoinView). option_map_or (λ (m : CoinView).
-        bundle_to (scan_in dig chain cell.openings coin m).links cell.openings coin tip) o (Err NoCoin)) some
-        ∙ ap (λ (x : Bool). if x then Ok (bundle_up tip) else Err (NotTip tip)) (tips-found tip ∙ at)
+    bundle-is tip b at = grind (arith, common_steps, tips-found) steps 20000
 
     pub bundle-not : (tip : ℕ)
         → ((made.deposit == tip) || list_any (λ (end : LinkEnd). end.block == tip) cell.ends) ≡ false
@@ -150,9 +98,7 @@ module _ (dig : List ℕ → List ℕ) (chain : Chain) (coin : ℕ) where
           let e : made ≡ other = some_same made other (sym some ∙ same) in
           histories_pass (tests_by dig) (rules_of chain) (more ++ chain.log) bundle
           (links_up_to tip (scan_in dig chain cell.openings coin other).links)
-          (subst (λ (m : CoinView). IsHistory (tests_by dig) (rules_of chain) (more ++ chain.log) bundle
-          (links_up_to tip (scan_in dig chain cell.openings coin m).links)) e
-          (stays-history (tests_by dig) (rules_of chain) chain.log more bundle (links_up_to tip scan.links) history))
+          (grind (arith, common_steps, stays-history, history) steps 20000)
 
       pub bundle-rises : AreRising (openings_up_to tip cell.openings)
       bundle-rises =
@@ -162,10 +108,4 @@ module _ (dig : List ℕ → List ℕ) (chain : Chain) (coin : ℕ) where
   pub broken-cell : (cell : CoinCell)
       → IsCellOf (tests_by dig) (rules_of chain) chain.log coin cell (coin_at chain.log coin)
       → cell.broken ≡ broken_answer dig chain cell.openings coin
-  broken-cell cell is =
-      (elim (coin_at chain.log coin) as (λ t. coin_at chain.log coin ≡ t
-      → IsCellOf (tests_by dig) (rules_of chain) chain.log coin cell t
-      → cell.broken ≡ broken_answer dig chain cell.openings coin) [
-        | None ↦ λ none empty. ap (λ (x : CoinCell). x.broken) empty ∙ sym (broken-none cell.openings none)
-        | Some made ↦ λ some has. sym (broken-some made cell some has)
-      ]) refl is
+  broken-cell cell is = grind (arith, common_steps, broken-none, broken-some) steps 20000

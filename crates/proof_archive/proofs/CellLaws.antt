@@ -1,34 +1,7 @@
 -- The cell of a coin has what is carried of its openings, as they come and as the log grows.
-use Rattle.std.proofs.Common.{◌≡◌, ℕ, suc, ◌-◌, ◌==◌, ◌&&◌, Bool, true, false, if◌then◌else◌, List, [], ◌∷◌, ◌++◌, map, reverse, length, Option, Some, None, inl, inr, refl, sym, ap, ◌∙◌, subst, arith}
-use Rattle.std.specs.Prelude.{is_some, slice_get, ◌||◌}
-use Rattle.std.specs.List.{list_any}
-use Rattle.std.specs.Map.{lookup}
-use Rattle.std.specs.Option.{option_map, option_map_or, unwrap_or}
-use Rattle.std.specs.Ordering.{nat_cmp}
-use Rattle.std.specs.BTreeMap.{BTreeMap, is_at}
-use Rattle.std.proofs.lemmas.Bool.{cases_eq, eq-eqb, ne_eqb}
-use Rattle.std.proofs.lemmas.List.{reverse-append, map-append}
+use Rattle.proof_archive.proofs.Words.{◌≡◌, ℕ, ◌-◌, ◌==◌, Bool, if◌then◌else◌, List, [], ◌∷◌, ◌++◌, map, reverse, length, Option, Some, None, inl, inr, refl, sym, ap, ◌∙◌, subst, arith, is_some, slice_get, ◌||◌, list_any, lookup, option_map, option_map_or, unwrap_or, nat_cmp, BTreeMap, is_at, cases_eq, eq-eqb, ne_eqb, reverse-append, map-append, common_steps, Owner, RawOpening, SignedTx, Link, Links, RootCall, CoinView, Chain, with_log, tip_of, last_owner_of, coin_at, Tests, Rules, tests_by, rules_of, is_absent, transfer_of, links_with, last_from, tip_from, owner_from, tip-is, last_owner-is, with_tx, coin_at-grown, LinkEnd, Move, Stays, Carried, next_tx, moved, step, carried_by, AreKept, CoinCell, no_cell, end_of, tip_in, owner_in, move_by, next_in, move_of, with_opening, IsCell, IsCellOf, cell_in, openings_of, IsWhole}
 use Rattle.std.proofs.lemmas.Map.Made.{lookup-map_values}
 use Rattle.sparse_merkle.specs.TreeDigest.{AreDefaults}
-use Rattle.plasma_tx.specs.declared.owner.Owner.{Owner}
-use Rattle.plasma_tx.specs.declared.opening.RawOpening.{RawOpening}
-use Rattle.plasma_tx.specs.declared.signed_tx.SignedTx.{SignedTx}
-use Rattle.plasma_tx.specs.declared.links.Link.{Link}
-use Rattle.plasma_tx.specs.declared.links.Links.{Links}
-use Rattle.plasma_tx.specs.declared.call.RootCall.{RootCall}
-use Rattle.plasma_tx.specs.declared.views.CoinView.{CoinView}
-use Rattle.plasma_tx.specs.Chain.{Chain, with_log}
-use Rattle.plasma_tx.specs.Links.{tip_of, last_owner_of}
-use Rattle.plasma_tx.specs.Views.{coin_at}
-use Rattle.plasma_tx.specs.Shown.{Tests, Rules, tests_by, rules_of, spends, signs}
-use Rattle.coin_history.specs.History.{is_absent, transfer_of}
-use Rattle.coin_history.specs.Inside.{links_with}
-use Rattle.coin_history.proofs.HistoryLinks.{last_from, tip_from, owner_from, tip-is, last_owner-is, with_tx}
-use Rattle.coin_history.proofs.HistoryGrow.{coin_at-grown}
-use Rattle.proof_archive.specs.declared.coin.LinkEnd.{LinkEnd}
-use Rattle.proof_archive.specs.declared.coin.Move.{Move}
-use Rattle.proof_archive.specs.declared.coin.Move.TheVariants.{Stays}
-use Rattle.proof_archive.specs.Carried.{Carried, next_tx, moved, step, carried_by, AreKept, CoinCell, no_cell, end_of, tip_in, owner_in, move_by, next_in, move_of, with_opening, IsCell, IsCellOf, cell_in, openings_of, IsWhole}
 use Rattle.proof_archive.proofs.Kept.{kept-grown}
 
 -- ---- where links lead
@@ -38,9 +11,7 @@ end-last : {X : Type 0} (f : LinkEnd → X) (d : X) (links : List Link)
     ≡ last_from (λ link. f (end_of link)) d links
 end-last f d [] = refl
 end-last f d (x ∷ []) = refl
-end-last f d (x ∷ y ∷ ys) =
-    let e : length (map end_of (x ∷ y ∷ ys)) - 1 ≡ suc (length (map end_of (y ∷ ys)) - 1) = omega arith in
-    ap (λ (n : ℕ). option_map_or f (slice_get (map end_of (x ∷ y ∷ ys)) n) d) e ∙ end-last f d (y ∷ ys)
+end-last f d (x ∷ y ∷ ys) = grind (arith, common_steps, end-last f d (y ∷ ys)) steps 20000
 
 pub ends-tip : (deposit : ℕ) (links : List Link) → tip_in deposit (map end_of links) ≡ tip_from deposit links
 ends-tip deposit links = end-last (λ end. end.block) deposit links
@@ -76,35 +47,21 @@ module _ (tests : Tests) (rules : Rules) (coin : ℕ) (made : CoinView) where
     same-owner = ap (owner_in made.owner) is.0 ∙ ends-owner made.owner carried.spends ∙ sym (last_owner-is links)
 
     same-next : (t : Option SignedTx) → next_in tests made cell t ≡ next_tx tests links t
-    same-next t =
-        ap (λ (n : ℕ). if spends n t && signs tests (Some (owner_in made.owner cell.ends)) t then t else None) same-tip
-        ∙ ap (λ (owner : Owner). if spends (tip_of links) t && signs tests (Some owner) t then t else None) same-owner
+    same-next t = grind (arith, common_steps, same-tip, same-owner) steps 20000
 
     same-move : move_of tests rules coin made cell o
         ≡ (if is_absent o || is_some carried.broken then Stays
         else move_by o (next_tx tests links (transfer_of rules coin o)))
-    same-move =
-        ap (λ (b : Option ℕ). if is_absent o || is_some b then Stays
-        else move_by o (next_in tests made cell (transfer_of rules coin o))) is.1
-        ∙ ap (λ (n : Option SignedTx). if is_absent o || is_some carried.broken then Stays else move_by o n)
-        (same-next (transfer_of rules coin o))
+    same-move = grind (arith, common_steps, same-next) steps 20000
 
     matched : (idle : Bool) (next : Option SignedTx) → Matches
         (with_opening cell o (if idle then Stays else move_by o next))
         (if idle then carried else moved carried o next)
-    matched true next = (is.0, is.1)
-    matched false None = (is.0, refl)
-    matched false (Some tx) = (
-      ap (λ (l : List LinkEnd). l ++ record { block = o.block; owner = tx.body.to } ∷ []) is.0
-          ∙ sym (map-append end_of carried.spends (with_tx o tx ∷ [])),
-      is.1,
-    )
+    matched idle next = grind (arith, common_steps, map-append, with_tx) steps 20000
 
     stepped : Matches (with_opening cell o (move_of tests rules coin made cell o))
         (step tests rules coin made carried o)
-    stepped = subst (λ (change : Move). Matches (with_opening cell o change) (step tests rules coin made carried o))
-        (sym same-move)
-        (matched (is_absent o || is_some carried.broken) (next_tx tests links (transfer_of rules coin o)))
+    stepped = grind (arith, common_steps, same-move, matched) steps 20000
 
 -- a cell with one more opening that is kept has what is carried
 pub cell-step : (tests : Tests) (rules : Rules) (log : List RootCall) (coin : ℕ) (made : CoinView) (cell : CoinCell)
@@ -115,14 +72,9 @@ cell-step tests rules log coin made cell o is are =
     let rev : List RawOpening = reverse cell.openings in
     let change : Move = move_of tests rules coin made cell o in
     let order : o ∷ rev ≡ reverse (with_opening cell o change).openings =
-    sym (ap (λ (os : List RawOpening). reverse os) (opened-with cell o change)
-    ∙ reverse-append cell.openings (o ∷ [])) in
+    grind (arith, common_steps, opened-with, reverse-append) steps 20000 in
     let s = stepped tests rules coin made cell (carried_by tests rules coin made rev) o (is.ends, is.broken) in
-    record {
-      kept = subst (AreKept tests log coin made) order are;
-      ends = s.0 ∙ ap (λ (os : List RawOpening). map end_of (carried_by tests rules coin made os).spends) order;
-      broken = s.1 ∙ ap (λ (os : List RawOpening). (carried_by tests rules coin made os).broken) order;
-    }
+    grind (arith, common_steps) steps 20000
 
 -- the same of a coin that the log has
 pub cell-judged : (tests : Tests) (rules : Rules) (log : List RootCall) (coin : ℕ) (made : CoinView) (cell : CoinCell)
@@ -130,9 +82,7 @@ pub cell-judged : (tests : Tests) (rules : Rules) (log : List RootCall) (coin : 
     → AreKept tests log coin made (o ∷ reverse cell.openings) → change ≡ move_of tests rules coin made cell o
     → IsCellOf tests rules log coin (with_opening cell o change) (coin_at log coin)
 cell-judged tests rules log coin made cell o change some is are same =
-    subst (IsCellOf tests rules log coin (with_opening cell o change)) (sym some)
-    (subst (λ (x : Move). IsCell tests rules log coin made (with_opening cell o x)) (sym same)
-    (cell-step tests rules log coin made cell o is are))
+    grind (arith, common_steps, cell-step) steps 20000
 
 -- an empty cell has what is carried of nothing
 pub cell-none : (tests : Tests) (rules : Rules) (log : List RootCall) (coin : ℕ) (made : CoinView)
@@ -146,21 +96,7 @@ pub cell-grown : (tests : Tests) (rules : Rules) (log : List RootCall) (call : R
     → IsCellOf tests rules log coin cell (coin_at log coin)
     → IsCellOf tests rules (call ∷ log) coin cell (coin_at (call ∷ log) coin)
 cell-grown tests rules log call coin cell is =
-    (elim (coin_at log coin) as (λ t. coin_at log coin ≡ t → IsCellOf tests rules log coin cell t
-    → IsCellOf tests rules (call ∷ log) coin cell (coin_at (call ∷ log) coin)) [
-      | None ↦ λ none empty. anew (coin_at (call ∷ log) coin) empty
-      | Some made ↦ λ some has. subst (IsCellOf tests rules (call ∷ log) coin cell)
-          (sym (coin_at-grown log call coin made some)) (record {
-            kept = kept-grown tests log call coin made (reverse cell.openings) has.kept;
-            ends = has.ends;
-            broken = has.broken;
-          })
-    ]) refl is
-  where
-    anew : (t : Option CoinView) → cell ≡ no_cell → IsCellOf tests rules (call ∷ log) coin cell t
-    anew None empty = empty
-    anew (Some made) empty = subst (IsCell tests rules (call ∷ log) coin made) (sym empty)
-        (cell-none tests rules (call ∷ log) coin made)
+    grind (arith, common_steps, coin_at-grown, kept-grown, cell-none) steps 20000
 
 -- of a coin that the log has the cell is one of it
 pub cell-made : (tests : Tests) (rules : Rules) (log : List RootCall) (coin : ℕ) (cell : CoinCell) (made : CoinView)
@@ -173,12 +109,7 @@ cell-made tests rules log coin cell made some is = subst (IsCellOf tests rules l
 pub whole-none : (dig : List ℕ → List ℕ) (chain : Chain) (defaults : List (List ℕ)) (cells : BTreeMap ℕ CoinCell)
     → AreDefaults dig defaults → cells.entries ≡ [] → chain.log ≡ [] → IsWhole dig chain defaults cells
 unfolding coin_at
-whole-none dig chain defaults cells are empty none = record {
-  defaults_are = are;
-  cells_are = λ coin. subst (λ (log : List RootCall).
-      IsCellOf (tests_by dig) (rules_of chain) log coin (cell_in cells coin) (coin_at log coin)) (sym none)
-      (ap (λ (es : List (ℕ × CoinCell)). unwrap_or (lookup (is_at (nat_cmp coin)) es) no_cell) empty);
-}
+whole-none dig chain defaults cells are empty none = grind (arith, common_steps) steps 20000
 
 pub whole-grown : (dig : List ℕ → List ℕ) (chain : Chain) (call : RootCall) (defaults : List (List ℕ))
     (cells : BTreeMap ℕ CoinCell) → IsWhole dig chain defaults cells

@@ -1,18 +1,5 @@
 -- Openings that show links, each the next one, and one more opening behind them.
-use Rattle.std.proofs.Common.{◌≡◌, ℕ, Bool, true, false, List, [], ◌∷◌, ◌++◌, Option, Some, None, refl, sym, ap, ◌∙◌, subst, append-nil}
-use Rattle.std.specs.Prelude.{is_some, ◌||◌}
-use Rattle.std.specs.Option.{option_map}
-use Rattle.std.specs.List.{AllByRecursion, cons_option}
-use Rattle.std.proofs.lemmas.Bool.{true≢false, or_left, or_right}
-use Rattle.std.proofs.lemmas.List.Elements.{filter_map-append}
-use Rattle.plasma_tx.specs.declared.owner.Owner.{Owner}
-use Rattle.plasma_tx.specs.declared.opening.RawOpening.{RawOpening}
-use Rattle.plasma_tx.specs.declared.signed_tx.SignedTx.{SignedTx}
-use Rattle.plasma_tx.specs.declared.links.Link.{Link}
-use Rattle.plasma_tx.specs.declared.views.CoinView.{CoinView}
-use Rattle.plasma_tx.specs.Shown.{Tests, Rules}
-use Rattle.coin_history.specs.History.{is_absent, transfer_of, link_of, links_in, AreLinked}
-use Rattle.coin_history.proofs.HistoryLinks.{tip_from, owner_from, with_tx, absent-none, IsLeaf}
+use Rattle.proof_archive.proofs.Words.{◌≡◌, ℕ, true, false, List, [], ◌∷◌, ◌++◌, Some, None, refl, sym, subst, arith, is_some, ◌||◌, option_map, AllByRecursion, cons_option, true≢false, or_left, or_right, filter_map-append, common_steps, Owner, RawOpening, SignedTx, Link, CoinView, Tests, Rules, is_absent, transfer_of, link_of, links_in, AreLinked, tip_from, owner_from, with_tx, absent-none, IsLeaf}
 
 -- ---- lists
 
@@ -65,16 +52,11 @@ module _ (rules : Rules) (coin : ℕ) where
   -- one more opening without a transfer shows no link, and one with a transfer its link
   pub links-none : (os : List RawOpening) (o : RawOpening) → transfer_of rules coin o ≡ None
       → links_in rules coin (os ++ o ∷ []) ≡ links_in rules coin os
-  links-none os o none =
-      links-one os o
-      ∙ ap (λ (t : Option SignedTx). links_in rules coin os ++ cons_option (option_map (with_tx o) t) []) none
-      ∙ append-nil (links_in rules coin os)
+  links-none os o none = grind (arith, common_steps, links-one, with_tx) steps 20000
 
   pub links-some : (os : List RawOpening) (o : RawOpening) (tx : SignedTx) → transfer_of rules coin o ≡ Some tx
       → links_in rules coin (os ++ o ∷ []) ≡ links_in rules coin os ++ with_tx o tx ∷ []
-  links-some os o tx some =
-      links-one os o
-      ∙ ap (λ (t : Option SignedTx). links_in rules coin os ++ cons_option (option_map (with_tx o) t) []) some
+  links-some os o tx some = grind (arith, common_steps, links-one, with_tx) steps 20000
 
 -- ---- openings that show links
 
@@ -95,22 +77,14 @@ module _ (tests : Tests) (rules : Rules) (coin : ℕ) (made : CoinView) where
   fine-none = record { leaves = tt; linked = tt }
 
   pub fine-absent : (os : List RawOpening) (o : RawOpening) → is_absent o ≡ true → IsFine os → IsFine (os ++ o ∷ [])
-  fine-absent os o absent fine = record {
-    leaves = every-push (IsLeaf rules coin) os o fine.leaves
-        (or_left (is_absent o) (is_some (transfer_of rules coin o)) absent);
-    linked = subst (AreLinked tests made.deposit made.owner)
-        (sym (links-none rules coin os o (absent-none rules coin o absent))) fine.linked;
-  }
+  fine-absent os o absent fine = grind (arith, common_steps, every-push, or_left, links-none, absent-none) steps 20000
 
   pub fine-next : (os : List RawOpening) (o : RawOpening) (tx : SignedTx) → IsNextLink (links_in rules coin os) o tx
       → IsFine os → IsFine (os ++ o ∷ [])
   fine-next os o tx next fine = record {
-    leaves = every-push (IsLeaf rules coin) os o fine.leaves
-        (or_right (is_absent o) (is_some (transfer_of rules coin o))
-        (ap (λ (t : Option SignedTx). is_some t) next.tx_is));
+    leaves = grind (arith, common_steps, every-push, or_right) steps 20000;
     linked = subst (AreLinked tests made.deposit made.owner) (sym (links-some rules coin os o tx next.tx_is))
-        (linked-more tests made.deposit made.owner (links_in rules coin os) (with_tx o tx) fine.linked
-        next.parent next.signed);
+        (grind (arith, common_steps, linked-more, with_tx) steps 20000);
   }
 
   pub fine-front : (os : List RawOpening) (o : RawOpening) → IsFine (os ++ o ∷ []) → IsFine os
@@ -132,9 +106,7 @@ module _ (tests : Tests) (rules : Rules) (coin : ℕ) (made : CoinView) where
         | None ↦ λ none.
             let leaf : (is_absent o || is_some (transfer_of rules coin o)) ≡ true =
             every-last (IsLeaf rules coin) os o fine.leaves in
-            let some : is_some (transfer_of rules coin o) ≡ true =
-            sym (ap (λ (b : Bool). b || is_some (transfer_of rules coin o)) there) ∙ leaf in
-            absurd (true≢false (sym some ∙ ap (λ (t : Option SignedTx). is_some t) none))
+            grind (arith, common_steps, true≢false) steps 20000
         | Some tx ↦ λ some.
             let last = linked-last tests made.deposit made.owner (links_in rules coin os) (with_tx o tx)
             (subst (AreLinked tests made.deposit made.owner) (links-some rules coin os o tx some) fine.linked) in

@@ -1,27 +1,5 @@
 -- What is held after every list of calls and openings: what is kept of a coin is of its first committed blocks.
-use Rattle.std.proofs.Common.{◌≡◌, ℕ, zero, suc, ◌+◌, ◌-◌, ◌<◌, ◌≤◌, ◌^◌, ◌==◌, ◌&&◌, not, Bool, true, false, if◌then◌else◌, List, [], ◌∷◌, ◌++◌, length, map, reverse, filter, find, Option, Some, None, Result, Ok, Err, inl, inr, refl, sym, ap, ◌∙◌, subst, arith}
-use Rattle.std.specs.Prelude.{nat_lt, nat_le, ◌||◌}
-use Rattle.std.specs.List.{list_any, range_with_len}
-use Rattle.std.proofs.lemmas.Bool.{cases_eq, cases_lt, eq-eqb, ne_eqb, true≢false, false_from_ne_true, and_from, and_parts, le-leb, ltb-true}
-use Rattle.std.proofs.lemmas.List.{reverse-append, reverse-reverse}
-use Rattle.plasma_tx.specs.declared.opening.RawOpening.{RawOpening}
-use Rattle.plasma_tx.specs.declared.call.RootCall.{RootCall}
-use Rattle.plasma_tx.specs.declared.views.CoinView.{CoinView}
-use Rattle.plasma_tx.specs.Chain.{Chain}
-use Rattle.plasma_tx.specs.Views.{coin_at}
-use Rattle.plasma_tx.specs.Shown.{Tests, tests_by, rules_of}
-use Rattle.coin_history.specs.declared.bundle.Bundle.{Bundle}
-use Rattle.coin_history.specs.History.{is_committed, committed_blocks, opens_block}
-use Rattle.coin_history.specs.Checking.{is_asked}
-use Rattle.coin_history.proofs.HistoryOpenings.{asked-parts}
-use Rattle.coin_history.proofs.HistoryGrow.{coin_at-grown}
-use Rattle.proof_archive.specs.declared.refusal.ArchiveRefusal.{ArchiveRefusal}
-use Rattle.proof_archive.specs.declared.refusal.ArchiveRefusal.TheVariants.{NoCoin, UnknownBlock, HaveBlock}
-use Rattle.proof_archive.specs.declared.coin.LinkEnd.{LinkEnd}
-use Rattle.proof_archive.specs.Scan.{newest_block}
-use Rattle.proof_archive.specs.Archives.{fits, has_block, first_gap, placed_behind, place_at, opened_at, put_at, put_answer, after_put, tip_answer, openings_up_to, bundle_answer}
-use Rattle.proof_archive.specs.Carried.{Carried, carried_by, AreKept, CoinCell, end_of, IsCell, IsNextPlace}
-use Rattle.proof_archive.specs.Laws.{StaysAHistory, Given, Follow, Put, Holding, held_with, held_after, BundlesAreHistories, TipsHaveBundles}
+use Rattle.proof_archive.proofs.Words.{◌≡◌, ℕ, zero, suc, ◌+◌, ◌-◌, ◌<◌, ◌≤◌, ◌^◌, ◌==◌, ◌&&◌, not, Bool, true, false, if◌then◌else◌, List, [], ◌∷◌, ◌++◌, length, map, reverse, filter, find, Option, Some, None, Result, Ok, Err, inl, inr, refl, sym, ap, ◌∙◌, subst, arith, nat_lt, nat_le, ◌||◌, list_any, range_with_len, cases_eq, cases_lt, eq-eqb, ne_eqb, true≢false, false_from_ne_true, and_from, and_parts, le-leb, ltb-true, reverse-append, reverse-reverse, common_steps, RawOpening, RootCall, CoinView, Chain, coin_at, Tests, tests_by, rules_of, Bundle, is_committed, committed_blocks, opens_block, is_asked, asked-parts, coin_at-grown, ArchiveRefusal, NoCoin, UnknownBlock, HaveBlock, LinkEnd, newest_block, fits, has_block, first_gap, placed_behind, place_at, opened_at, put_at, put_answer, after_put, tip_answer, openings_up_to, bundle_answer, Carried, carried_by, AreKept, CoinCell, end_of, IsCell, IsNextPlace, StaysAHistory, Given, Follow, Put, Holding, held_with, held_after, BundlesAreHistories, TipsHaveBundles}
 use Rattle.proof_archive.proofs.Kept.{kept-deposit, kept-has, kept-lacks, kept-more, kept-grown, kept-nothing}
 use Rattle.proof_archive.proofs.ByCell.{tip-none, tip-some, bundle-none, bundle-not, bundle-some, bundle-stays, tip-is_tip}
 
@@ -55,16 +33,11 @@ find-all p q start (suc count) none m low high passes =
 placed-parts : (known has : Bool) (gap : Option ℕ) (n m : ℕ)
     → (if not known then Err (UnknownBlock n) else if has then Err (HaveBlock n) else placed_behind gap n) ≡ Ok m
     → (known ≡ true) × (has ≡ false) × (gap ≡ None)
-placed-parts false has gap n m is = absurd (cc is)
-placed-parts true true gap n m is = absurd (cc is)
-placed-parts true false None n m is = (refl, refl, refl)
-placed-parts true false (Some g) n m is = absurd (cc is)
+placed-parts known has gap n m is = grind (arith, common_steps) steps 20000
 
 opened-parts : (opens : Bool) (placed : Result ℕ ArchiveRefusal) (n : ℕ) → opened_at opens placed ≡ Ok n
     → (opens ≡ true) × ((m : ℕ) × (placed ≡ Ok m))
-opened-parts opens (Err why) n is = absurd (cc is)
-opened-parts true (Ok m) n is = (refl, (m, refl))
-opened-parts false (Ok m) n is = absurd (cc is)
+opened-parts opens placed n is = grind (arith, common_steps) steps 20000
 
 module _ (tests : Tests) (log : List RootCall) (coin : ℕ) (made : CoinView) (kept : List RawOpening)
     (are : AreKept tests log coin made (reverse kept)) where
@@ -84,11 +57,7 @@ module _ (tests : Tests) (log : List RootCall) (coin : ℕ) (made : CoinView) (k
       record {
         asked = asked;
         narrow = ltb-true n (2 ^ 32) known.1;
-        past = elim (cases_lt (newest_block made.deposit (reverse kept)) n) [
-          | inl less ↦ less
-          | inr within ↦ absurd (true≢false (sym (kept-has tests log coin made kept are (reverse-reverse kept) n own.0
-              own.1 within) ∙ parts.1))
-        ];
+        past = grind (arith, common_steps, cases_lt, true≢false, kept-has, reverse-reverse) steps 20000;
         none = λ x from to. false_from_ne_true (is_asked log (newest_block made.deposit (reverse kept)) n x) (λ a.
             let of = asked-parts log (newest_block made.deposit (reverse kept)) n x a in
             let gone : not (has_block kept x) ≡ false =
@@ -106,9 +75,7 @@ module _ (tests : Tests) (log : List RootCall) (coin : ℕ) (made : CoinView) (k
       (place_at log made.deposit kept o.block) n is in
       let opens = and_parts (fits (length o.bytes)) (opens_block tests log coin o) parts.0 in
       let next = next-placed o.block parts.1.0 parts.1.1 in
-      let own = asked-parts log made.deposit o.block o.block next.asked in
-      subst (AreKept tests log coin made) (sym (reverse-append kept (o ∷ [])))
-      (kept-more tests log coin made kept are (reverse-reverse kept) o own.0 next.past next.none opens.1)
+      grind (arith, common_steps, asked-parts, reverse-append, kept-more, reverse-reverse) steps 20000
 
 -- ---- every list
 
@@ -121,17 +88,7 @@ kept-followed : (tests : Tests) (log : List RootCall) (call : RootCall) (coin : 
     → IsKeptOf tests log coin kept (coin_at log coin)
     → IsKeptOf tests (call ∷ log) coin kept (coin_at (call ∷ log) coin)
 kept-followed tests log call coin kept is =
-    (elim (coin_at log coin) as (λ t. coin_at log coin ≡ t → IsKeptOf tests log coin kept t
-    → IsKeptOf tests (call ∷ log) coin kept (coin_at (call ∷ log) coin)) [
-      | None ↦ λ none empty. anew (coin_at (call ∷ log) coin) empty
-      | Some made ↦ λ some has. subst (IsKeptOf tests (call ∷ log) coin kept)
-          (sym (coin_at-grown log call coin made some)) (kept-grown tests log call coin made (reverse kept) has)
-    ]) refl is
-  where
-    anew : (t : Option CoinView) → kept ≡ [] → IsKeptOf tests (call ∷ log) coin kept t
-    anew None empty = empty
-    anew (Some made) empty = subst (λ (os : List RawOpening). AreKept tests (call ∷ log) coin made (reverse os))
-        (sym empty) (kept-nothing tests (call ∷ log) coin made)
+    grind (arith, common_steps, coin_at-grown, kept-grown, kept-nothing) steps 20000
 
 kept-answered : (dig : List ℕ → List ℕ) (chain : Chain) (kept : List RawOpening) (coin : ℕ) (o : RawOpening)
     (answer : Result ℕ ArchiveRefusal) → put_answer dig chain kept coin o ≡ answer
@@ -164,21 +121,7 @@ module _ (dig : List ℕ → List ℕ) (chain : Chain) where
       put-kept : (h : Holding) (at : ℕ) (o : RawOpening)
           → ((c : ℕ) → IsKeptOf (tests_by dig) h.chain.log c (h.kept c) (coin_at h.chain.log c)) → (c : ℕ)
           → IsKeptOf (tests_by dig) h.chain.log c ((held_with dig h (Put at o)).kept c) (coin_at h.chain.log c)
-      put-kept h at o are c = elim (cases_eq c at) [
-        | inl e ↦
-            subst (λ (n : ℕ). IsKeptOf (tests_by dig) h.chain.log n ((held_with dig h (Put at o)).kept n)
-            (coin_at h.chain.log n)) (sym e)
-            (subst (λ (os : List RawOpening). IsKeptOf (tests_by dig) h.chain.log at os (coin_at h.chain.log at))
-            (sym (ap (λ (b : Bool). if b
-            then after_put (h.kept at) o (put_answer dig h.chain (h.kept at) at o) else h.kept at)
-            (eq-eqb at at refl)))
-            (kept-answered dig h.chain (h.kept at) at o (put_answer dig h.chain (h.kept at) at o) refl (are at)))
-        | inr apart ↦
-            subst (λ (os : List RawOpening). IsKeptOf (tests_by dig) h.chain.log c os (coin_at h.chain.log c))
-            (sym (ap (λ (b : Bool). if b
-            then after_put (h.kept at) o (put_answer dig h.chain (h.kept at) at o) else h.kept c)
-            (ne_eqb c at apart))) (are c)
-      ]
+      put-kept h at o are c = grind (arith, common_steps, cases_eq, eq-eqb, kept-answered, ne_eqb) steps 20000
 
 -- ---- the laws, by the cell that would have what is carried of what is kept
 
@@ -241,21 +184,7 @@ none-tipped dig chain coin kept tip none is =
 
 pub bundles_are_histories : BundlesAreHistories
 bundles_are_histories dig chain given coin tip bundle is =
-    let h : Holding = held_after dig chain given in
-    (elim (coin_at h.chain.log coin) as (λ t. coin_at h.chain.log coin ≡ t
-    → IsKeptOf (tests_by dig) h.chain.log coin (h.kept coin) t
-    → (bundle ≡ record { coin = coin; tip = tip; openings = openings_up_to tip (h.kept coin) })
-    × StaysAHistory dig h.chain (h.kept coin) coin tip bundle) [
-      | None ↦ λ none empty. absurd (none-bundled dig h.chain coin (h.kept coin) tip bundle none is)
-      | Some made ↦ λ some are. bundle-good dig h.chain coin (h.kept coin) made some are tip bundle is
-    ]) refl (all-kept dig chain given coin)
+    grind (arith, common_steps, none-bundled, bundle-good, all-kept) steps 20000
 
 pub tips_have_bundles : TipsHaveBundles
-tips_have_bundles dig chain given coin tip is =
-    let h : Holding = held_after dig chain given in
-    (elim (coin_at h.chain.log coin) as (λ t. coin_at h.chain.log coin ≡ t
-    → IsKeptOf (tests_by dig) h.chain.log coin (h.kept coin) t
-    → (bundle : Bundle) × (bundle_answer dig h.chain (h.kept coin) coin tip ≡ Ok bundle)) [
-      | None ↦ λ none empty. absurd (none-tipped dig h.chain coin (h.kept coin) tip none is)
-      | Some made ↦ λ some are. tip-good dig h.chain coin (h.kept coin) made some are tip is
-    ]) refl (all-kept dig chain given coin)
+tips_have_bundles dig chain given coin tip is = grind (arith, common_steps, none-tipped, tip-good, all-kept) steps 20000

@@ -1,24 +1,5 @@
 -- Openings that are kept, the newest first: their blocks, and one more of them.
-use Rattle.std.proofs.Common.{◌≡◌, ℕ, zero, suc, ◌+◌, ◌-◌, ◌<◌, ◌≤◌, ◌==◌, not, Bool, true, false, if◌then◌else◌, List, [], ◌∷◌, ◌++◌, length, reverse, filter, find, Option, Some, None, inl, inr, refl, sym, ap, ◌∙◌, subst, arith}
-use Rattle.std.specs.Prelude.{is_some}
-use Rattle.std.specs.List.{AllByRecursion, range_with_len}
-use Rattle.std.specs.Option.{option_or}
-use Rattle.std.proofs.lemmas.Bool.{cases_eq, cases_lt, true≢false, false_from_ne_true}
-use Rattle.std.proofs.lemmas.List.Folds.{find-append}
-use mathlib.Core.List.{reverse-cons}
-use Rattle.plasma_tx.specs.declared.opening.RawOpening.{RawOpening}
-use Rattle.plasma_tx.specs.declared.call.RootCall.{RootCall}
-use Rattle.plasma_tx.specs.declared.views.CoinView.{CoinView}
-use Rattle.plasma_tx.specs.Shown.{Tests}
-use Rattle.coin_history.specs.History.{is_committed, blocks_of, committed_blocks, opens_block}
-use Rattle.coin_history.specs.Checking.{is_asked, opening_at}
-use Rattle.coin_history.specs.Inside.{NoneIsAsked, IsFirstAsked}
-use Rattle.coin_history.proofs.HistoryOpenings.{Up, found-each, asked-parts, asked-from, AreAsked, blocks-from_asked, asked-from_blocks, at-head}
-use Rattle.coin_history.proofs.HistoryLinks.{every-weaker}
-use Rattle.coin_history.proofs.HistoryGrow.{opens-le, opens-grown, committed_blocks-grown}
-use Rattle.proof_archive.specs.Scan.{newest_block}
-use Rattle.proof_archive.specs.Archives.{has_block, first_gap}
-use Rattle.proof_archive.specs.Carried.{AreKept}
+use Rattle.proof_archive.proofs.Words.{◌≡◌, ℕ, zero, suc, ◌+◌, ◌-◌, ◌<◌, ◌≤◌, ◌==◌, not, Bool, true, false, List, [], ◌∷◌, ◌++◌, length, reverse, filter, find, Option, Some, None, inl, inr, refl, sym, ap, ◌∙◌, subst, arith, is_some, AllByRecursion, range_with_len, option_or, cases_eq, cases_lt, true≢false, false_from_ne_true, find-append, common_steps, reverse-cons, RawOpening, RootCall, CoinView, Tests, is_committed, blocks_of, committed_blocks, opens_block, is_asked, opening_at, NoneIsAsked, IsFirstAsked, Up, found-each, asked-parts, asked-from, AreAsked, blocks-from_asked, asked-from_blocks, at-head, every-weaker, opens-le, opens-grown, committed_blocks-grown, newest_block, has_block, first_gap, AreKept}
 use Rattle.proof_archive.proofs.Fine.{every-push}
 
 pub none-committed : (log : List RootCall) (n : ℕ) → committed_blocks log n n ≡ []
@@ -31,8 +12,7 @@ module _ (tests : Tests) (log : List RootCall) (coin : ℕ) (made : CoinView) wh
   pub kept-blocks : (rev : List RawOpening) → AreKept tests log coin made rev
       → blocks_of (reverse rev) ≡ committed_blocks log made.deposit (newest_block made.deposit rev)
   unfolding AreKept
-  kept-blocks [] kept = sym (none-committed log made.deposit)
-  kept-blocks (o ∷ older) kept = kept.1
+  kept-blocks rev kept = grind (arith, common_steps, none-committed) steps 20000
 
   pub kept-asked : (rev : List RawOpening) → AreKept tests log coin made rev
       → AreAsked log made.deposit (newest_block made.deposit rev) (reverse rev)
@@ -59,16 +39,13 @@ module _ (tests : Tests) (log : List RootCall) (coin : ℕ) (made : CoinView) wh
   kept-below (o ∷ older) kept =
       subst (AllByRecursion (λ (x : RawOpening). x.block ≤ o.block)) (sym (reverse-cons o older))
       (every-push (λ x. x.block ≤ o.block) (reverse older) o
-      (every-weaker (λ x. x.block ≤ newest_block made.deposit older) (λ x. x.block ≤ o.block)
-      (λ x le. let less = kept.0 in omega arith) (reverse older) (kept-below older kept.3)) (omega arith))
+      (grind (arith, common_steps, kept-below older kept.3, every-weaker) steps 20000) (omega arith))
 
   pub kept-opened : (rev : List RawOpening) → AreKept tests log coin made rev
       → AllByRecursion (λ x. opens_block tests log coin x ≡ true) (reverse rev)
   unfolding AreKept
   kept-opened [] kept = tt
-  kept-opened (o ∷ older) kept =
-      subst (AllByRecursion (λ (x : RawOpening). opens_block tests log coin x ≡ true)) (sym (reverse-cons o older))
-      (every-push (λ x. opens_block tests log coin x ≡ true) (reverse older) o (kept-opened older kept.3) kept.2)
+  kept-opened (o ∷ older) kept = grind (arith, common_steps, kept-opened older kept.3, every-push) steps 20000
 
 pub kept-nothing : (tests : Tests) (log : List RootCall) (coin : ℕ) (made : CoinView) → AreKept tests log coin made []
 unfolding AreKept
@@ -95,13 +72,7 @@ find-none : (p q : ℕ → Bool) (start count : ℕ)
 find-none p q start zero none = refl
 find-none p q start (suc count) none =
     let rest = find-none p q (start + 1) count (λ m low high. none m (omega arith) (omega arith)) in
-    (elim (q start) as (λ b. q start ≡ b → find p (if b then start ∷ filter q (range_with_len (start + 1) count)
-    else filter q (range_with_len (start + 1) count)) ≡ None) [
-      | true ↦ λ passes. ap (λ (b : Bool). if b then Some start
-          else find p (filter q (range_with_len (start + 1) count)))
-          (none start (omega arith) (omega arith) passes) ∙ rest
-      | false ↦ λ fails. rest
-    ]) refl
+    grind (arith, common_steps) steps 20000
 
 find-first : (p q : ℕ → Bool) (start count n : ℕ) → start ≤ n → n < start + count → q n ≡ true → p n ≡ true
     → ((m : ℕ) → start ≤ m → m < n → q m ≡ true → p m ≡ false)
@@ -109,21 +80,11 @@ find-first : (p q : ℕ → Bool) (start count n : ℕ) → start ≤ n → n < 
 find-first p q start zero n low high passes is none = absurd (omega arith)
 find-first p q start (suc count) n low high passes is none = elim (cases_eq start n) [
   | inl same ↦
-      ap (λ (b : Bool). find p (if b then start ∷ filter q (range_with_len (start + 1) count)
-      else filter q (range_with_len (start + 1) count))) (ap q same ∙ passes)
-      ∙ ap (λ (b : Bool). if b then Some start else find p (filter q (range_with_len (start + 1) count)))
-      (ap p same ∙ is)
-      ∙ ap (λ (m : ℕ). Some m) same
+      grind (arith, common_steps) steps 20000
   | inr apart ↦
       let rest = find-first p q (start + 1) count n (omega arith) (omega arith) passes is
       (λ m from to. none m (omega arith) to) in
-      (elim (q start) as (λ b. q start ≡ b → find p (if b then start ∷ filter q (range_with_len (start + 1) count)
-      else filter q (range_with_len (start + 1) count)) ≡ Some n) [
-        | true ↦ λ here. ap (λ (b : Bool). if b then Some start
-            else find p (filter q (range_with_len (start + 1) count)))
-            (none start (omega arith) (omega arith) here) ∙ rest
-        | false ↦ λ here. rest
-      ]) refl
+      grind (arith, common_steps) steps 20000
 ]
 
 module _ (tests : Tests) (log : List RootCall) (coin : ℕ) (made : CoinView) (kept : List RawOpening)
@@ -136,21 +97,13 @@ module _ (tests : Tests) (log : List RootCall) (coin : ℕ) (made : CoinView) (k
 
   -- a committed block after the deposit is kept exactly where the newest is at least that
   pub kept-has : (n : ℕ) → is_committed log n ≡ true → made.deposit < n → n ≤ newest → has_block kept n ≡ true
-  kept-has n committed more le =
-      (elim (opening_at kept n) as (λ t. opening_at kept n ≡ t → is_some t ≡ true) [
-        | None ↦ λ none. absurd (true≢false (sym (asked-from log made.deposit newest n committed more le)
-            ∙ asked.other n none))
-        | Some x ↦ λ some. refl
-      ]) refl
+  kept-has n committed more le = grind (arith, common_steps, true≢false, asked-from, asked) steps 20000
 
   pub kept-lacks : (n : ℕ) → newest < n → has_block kept n ≡ false
   kept-lacks n less =
       (elim (opening_at kept n) as (λ t. opening_at kept n ≡ t → is_some t ≡ false) [
         | None ↦ λ none. refl
-        | Some x ↦ λ some.
-            let at = found-each (λ o. is_asked log made.deposit newest o.block ≡ true) kept n x asked.each some in
-            let parts = asked-parts log made.deposit newest x.block at.1 in
-            absurd (omega (arith, at.0, parts.2))
+        | Some x ↦ grind (arith, common_steps, found-each, asked, asked-parts) steps 20000
       ]) refl
 
   -- the first gap before a block is the first committed one behind the newest
@@ -158,11 +111,7 @@ module _ (tests : Tests) (log : List RootCall) (coin : ℕ) (made : CoinView) (k
   unfolding committed_blocks
   no-gap n none =
       find-none (λ m. not (has_block kept m)) (is_committed log) (made.deposit + 1) (n - 1 - made.deposit)
-      (λ m low high committed. elim (cases_lt newest m) [
-        | inl behind ↦ absurd (true≢false (sym (asked-from log newest n m committed behind (omega arith))
-            ∙ none m (omega arith) (omega arith)))
-        | inr within ↦ ap not (kept-has m committed (omega arith) within)
-      ])
+      (grind (arith, common_steps, cases_lt, true≢false, asked-from, kept-has) steps 20000)
 
   pub first-gap : (n m : ℕ) → IsFirstAsked (is_asked log newest n) 0 n m
       → first_gap log made.deposit kept n ≡ Some m
@@ -173,11 +122,7 @@ module _ (tests : Tests) (log : List RootCall) (coin : ℕ) (made : CoinView) (k
       let high = is.high in
       find-first (λ x. not (has_block kept x)) (is_committed log) (made.deposit + 1) (n - 1 - made.deposit) m
       (omega (arith, parts.1)) (omega (arith, parts.1)) parts.0 (ap not (kept-lacks m parts.1))
-      (λ x from to committed. elim (cases_lt newest x) [
-        | inl behind ↦ absurd (true≢false (sym (asked-from log newest n x committed behind (omega arith))
-            ∙ is.first x (omega arith) to))
-        | inr within ↦ ap not (kept-has x committed (omega arith) within)
-      ])
+      (grind (arith, common_steps, cases_lt, true≢false, asked-from, kept-has) steps 20000)
 
   -- ---- one more opening is kept
 
@@ -199,24 +144,14 @@ module _ (tests : Tests) (log : List RootCall) (coin : ℕ) (made : CoinView) (k
       let order : reverse (o ∷ reverse kept) ≡ kept ++ o ∷ [] =
       reverse-cons o (reverse kept) ∙ ap (λ (os : List RawOpening). os ++ o ∷ []) same in
       let all : AreAsked log made.deposit o.block (kept ++ o ∷ []) = record {
-        up = up-push (suc made.deposit) kept o asked.up
-            (every-weaker (λ x. x.block ≤ newest) (λ x. x.block < o.block) (λ x le. omega arith) kept below)
-            (omega arith);
+        up = grind (arith, common_steps, up-push, asked, every-weaker) steps 20000;
         each = every-push (λ x. is_asked log made.deposit o.block x.block ≡ true) kept o
             (every-weaker (λ x. is_asked log made.deposit newest x.block ≡ true)
             (λ x. is_asked log made.deposit o.block x.block ≡ true)
-            (λ x a. let parts = asked-parts log made.deposit newest x.block a in
-            asked-from log made.deposit o.block x.block parts.0 parts.1 (omega (arith, parts.2))) kept asked.each)
+            (grind (arith, common_steps, asked-parts, asked-from) steps 20000) kept asked.each)
             (asked-from log made.deposit o.block o.block committed (omega arith) (omega arith));
-        other = λ n missing. false_from_ne_true (is_asked log made.deposit o.block n)
-            (λ a. other n missing (asked-parts log made.deposit o.block n a));
-      } in (
-        less,
-        subst (λ (os : List RawOpening). blocks_of os ≡ committed_blocks log made.deposit o.block) (sym order)
-            (blocks-from_asked log made.deposit o.block (kept ++ o ∷ []) all),
-        opens,
-        are,
-      )
+        other = grind (arith, common_steps, false_from_ne_true, other, asked-parts) steps 20000;
+      } in grind (arith, common_steps, blocks-from_asked) steps 20000
     where
       found : (n : ℕ) → opening_at (kept ++ o ∷ []) n ≡ option_or (opening_at kept n) (opening_at (o ∷ []) n)
       found n = find-append (λ (x : RawOpening). x.block == n) kept (o ∷ [])
@@ -229,12 +164,4 @@ module _ (tests : Tests) (log : List RootCall) (coin : ℕ) (made : CoinView) (k
           → (is_committed log n ≡ true) × (made.deposit < n) × (n ≤ o.block) → ⊥
       other n missing parts =
           let two = first-none (opening_at kept n) (opening_at (o ∷ []) n) (sym (found n) ∙ missing) in
-          elim (cases_lt newest n) [
-            | inl behind ↦ elim (cases_eq o.block n) [
-              | inl here ↦ let wrong = at-head n o [] here in absurd (cc (wrong, two.1))
-              | inr apart ↦ true≢false (sym (asked-from log newest o.block n parts.0 behind parts.2)
-                  ∙ none n (omega arith) (omega (arith, parts.2)))
-            ]
-            | inr within ↦ true≢false (sym (asked-from log made.deposit newest n parts.0 parts.1 within)
-                ∙ asked.other n two.0)
-          ]
+          grind (arith, common_steps, cases_lt, cases_eq, at-head, true≢false, asked-from, asked) steps 20000

@@ -1,3 +1,4 @@
+pub mod Words
 pub mod SpellLaws
 pub mod Fine
 pub mod Kept

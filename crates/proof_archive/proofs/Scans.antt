@@ -1,34 +1,6 @@
 -- What is carried forward, opening by opening, is what a scan of all openings finds.
-use Rattle.std.proofs.Common.{◌≡◌, ℕ, suc, ◌<◌, ◌≤◌, ◌==◌, ◌&&◌, not, Bool, true, false, if◌then◌else◌, List, [], ◌∷◌, ◌++◌, reverse, filter, find, Option, Some, None, Ok, Err, inl, inr, refl, sym, ap, ◌∙◌, subst, arith, append-nil}
-use Rattle.std.specs.Prelude.{nat_le, nat_lt, ◌||◌, ◌⊎◌}
-use Rattle.std.specs.List.{AllByRecursion, list_any}
-use Rattle.std.specs.Option.{option_map, option_or}
-use Rattle.std.proofs.lemmas.Bool.{eqb-true, eq-eqb, true≢false, le-leb, lt-leb, le-ltb, lt-ltb, or_cases, or_left, or_right, and_parts, and_from, and_left, and_right}
-use Rattle.std.proofs.lemmas.List.Elements.{All-from_recursion, recursion_from_All, filter-append}
-use Rattle.std.proofs.lemmas.List.Folds.{find-append}
-use mathlib.Core.List.{reverse-cons}
-use Rattle.plasma_tx.specs.declared.opening.RawOpening.{RawOpening}
-use Rattle.plasma_tx.specs.declared.signed_tx.SignedTx.{SignedTx}
-use Rattle.plasma_tx.specs.declared.links.Link.{Link}
-use Rattle.plasma_tx.specs.declared.links.Links.{Links}
-use Rattle.plasma_tx.specs.declared.call.RootCall.{RootCall}
-use Rattle.plasma_tx.specs.declared.views.CoinView.{CoinView}
-use Rattle.plasma_tx.specs.Links.{tip_of, last_owner_of}
-use Rattle.plasma_tx.specs.Views.{coin_at}
-use Rattle.plasma_tx.specs.Shown.{Tests, Rules, spends, signs}
-use Rattle.plasma_tx.proofs.Names.{some_same}
-use Rattle.coin_history.specs.declared.bundle.Bundle.{Bundle}
-use Rattle.coin_history.specs.Bundles.{AreRising}
-use Rattle.coin_history.specs.History.{is_absent, opens_block, transfer_of, links_in, links_of, committed_blocks, AreLinked, IsHistory}
-use Rattle.coin_history.specs.Checking.{history_of}
-use Rattle.coin_history.specs.Inside.{links_with}
-use Rattle.coin_history.proofs.HistoryOpenings.{rising-up}
-use Rattle.coin_history.proofs.HistoryLinks.{every-weaker, tip_from, last-push, tip-is, last_owner-is, with_tx, absent-none, none-linked, IsLeaf}
-use Rattle.coin_history.proofs.HistoryFound.{histories_are_found, histories_pass}
+use Rattle.proof_archive.proofs.Words.{◌≡◌, ℕ, suc, ◌<◌, ◌≤◌, ◌==◌, ◌&&◌, not, Bool, true, false, if◌then◌else◌, List, [], ◌∷◌, ◌++◌, reverse, filter, find, Option, Some, None, Ok, inl, inr, refl, sym, ap, ◌∙◌, subst, arith, nat_le, nat_lt, ◌||◌, ◌⊎◌, AllByRecursion, list_any, option_map, eqb-true, eq-eqb, true≢false, le-leb, lt-leb, le-ltb, lt-ltb, or_cases, or_left, or_right, and_parts, and_from, and_left, and_right, All-from_recursion, recursion_from_All, filter-append, find-append, common_steps, reverse-cons, RawOpening, SignedTx, Link, Links, RootCall, CoinView, tip_of, last_owner_of, coin_at, Tests, Rules, spends, signs, some_same, Bundle, AreRising, is_absent, opens_block, transfer_of, links_in, links_of, AreLinked, IsHistory, history_of, links_with, rising-up, every-weaker, tip_from, last-push, tip-is, last_owner-is, with_tx, absent-none, none-linked, IsLeaf, histories_are_found, histories_pass, newest_block, bundle_up_to_newest, is_astray, broken_behind, longest_history, scan_of, is_tip, openings_up_to, links_up_to, Carried, next_tx, moved, step, carried_by, AreKept}
 use Rattle.coin_history.proofs.HistoryShape.{tips_are_links}
-use Rattle.proof_archive.specs.Scan.{newest_block, bundle_up_to_newest, links_or, is_astray, broken_behind, longest_history, scan_of}
-use Rattle.proof_archive.specs.Archives.{is_tip, openings_up_to, links_up_to}
-use Rattle.proof_archive.specs.Carried.{Carried, next_tx, moved, step, carried_by, AreKept}
 use Rattle.proof_archive.proofs.Fine.{every-push, every-last, links-none, links-some, IsFine, IsNextLink, fine-none, fine-absent, fine-next, fine-front, fine-last}
 use Rattle.proof_archive.proofs.Kept.{none-committed, kept-blocks, kept-asked, kept-deposit, kept-below, kept-opened}
 
@@ -36,16 +8,11 @@ use Rattle.proof_archive.proofs.Kept.{none-committed, kept-blocks, kept-asked, k
 
 up-all : (tip : ℕ) (os : List RawOpening) → AllByRecursion (λ x. x.block ≤ tip) os → openings_up_to tip os ≡ os
 up-all tip [] all = refl
-up-all tip (o ∷ os) all =
-    ap (λ (b : Bool). if b then o ∷ openings_up_to tip os else openings_up_to tip os) (le-leb o.block tip all.0)
-    ∙ ap (λ (l : List RawOpening). o ∷ l) (up-all tip os all.1)
+up-all tip (o ∷ os) all = grind (arith, common_steps, up-all tip os all.1, le-leb) steps 20000
 
 up-past : (tip : ℕ) (os : List RawOpening) (o : RawOpening) → tip < o.block
     → openings_up_to tip (os ++ o ∷ []) ≡ openings_up_to tip os
-up-past tip os o past =
-    filter-append (λ (x : RawOpening). nat_le x.block tip) os (o ∷ [])
-    ∙ ap (λ (b : Bool). openings_up_to tip os ++ (if b then o ∷ [] else [])) (lt-leb o.block tip past)
-    ∙ append-nil (openings_up_to tip os)
+up-past tip os o past = grind (arith, common_steps, filter-append, lt-leb) steps 20000
 
 abbrev spends_up_to : ℕ → List Link → List Link
 spends_up_to tip links = filter (λ link. nat_le link.block tip) links
@@ -53,24 +20,16 @@ spends_up_to tip links = filter (λ link. nat_le link.block tip) links
 spends-all : (tip : ℕ) (links : List Link) → AllByRecursion (λ link. link.block ≤ tip) links
     → spends_up_to tip links ≡ links
 spends-all tip [] all = refl
-spends-all tip (x ∷ xs) all =
-    ap (λ (b : Bool). if b then x ∷ spends_up_to tip xs else spends_up_to tip xs) (le-leb x.block tip all.0)
-    ∙ ap (λ (l : List Link). x ∷ l) (spends-all tip xs all.1)
+spends-all tip (x ∷ xs) all = grind (arith, common_steps, spends-all tip xs all.1, le-leb) steps 20000
 
 spends-past : (tip : ℕ) (links : List Link) (link : Link) → tip < link.block
     → spends_up_to tip (links ++ link ∷ []) ≡ spends_up_to tip links
-spends-past tip links link past =
-    filter-append (λ (x : Link). nat_le x.block tip) links (link ∷ [])
-    ∙ ap (λ (b : Bool). spends_up_to tip links ++ (if b then link ∷ [] else [])) (lt-leb link.block tip past)
-    ∙ append-nil (spends_up_to tip links)
+spends-past tip links link past = grind (arith, common_steps, filter-append, lt-leb) steps 20000
 
 -- a tip is the deposit or a link's block
 tip-below : (deposit n tip : ℕ) (links : List Link) → deposit ≤ n → AllByRecursion (λ link. link.block ≤ n) links
     → ((deposit == tip) || list_any (λ (link : Link). link.block == tip) links) ≡ true → tip ≤ n
-tip-below deposit n tip [] le all is = elim (or_cases (deposit == tip) false is) [
-  | inl here ↦ omega (arith, eqb-true deposit tip here)
-  | inr wrong ↦ absurd (true≢false (sym wrong))
-]
+tip-below deposit n tip [] le all is = grind (arith, common_steps, or_cases, eqb-true, true≢false) steps 20000
 tip-below deposit n tip (x ∷ xs) le all is =
     elim (or_cases (deposit == tip) ((x.block == tip) || list_any (λ (link : Link). link.block == tip) xs) is) [
       | inl here ↦ omega (arith, eqb-true deposit tip here)
@@ -80,36 +39,15 @@ tip-below deposit n tip (x ∷ xs) le all is =
 tip-more : (deposit tip : ℕ) (links : List Link) (link : Link)
     → ((deposit == tip) || list_any (λ (x : Link). x.block == tip) (links ++ link ∷ [])) ≡ true
     → (((deposit == tip) || list_any (λ (x : Link). x.block == tip) links) ≡ true) ⊎ (link.block ≡ tip)
-tip-more deposit tip [] link is = elim (or_cases (deposit == tip) ((link.block == tip) || false) is) [
-  | inl here ↦ inl (or_left (deposit == tip) false here)
-  | inr later ↦ elim (or_cases (link.block == tip) false later) [
-    | inl there ↦ inr (eqb-true link.block tip there)
-    | inr wrong ↦ absurd (true≢false (sym wrong))
-  ]
-]
-tip-more deposit tip (x ∷ xs) link is =
-    elim (or_cases (deposit == tip) ((x.block == tip) || list_any (λ (y : Link). y.block == tip) (xs ++ link ∷ []))
-    is) [
-      | inl here ↦ inl (or_left (deposit == tip)
-          ((x.block == tip) || list_any (λ (y : Link). y.block == tip) xs) here)
-      | inr later ↦ elim (tip-more x.block tip xs link later) [
-        | inl old ↦ inl (or_right (deposit == tip) ((x.block == tip) || list_any (λ (y : Link). y.block == tip) xs) old)
-        | inr last ↦ inr last
-      ]
-    ]
+tip-more deposit tip [] link is = grind (arith, common_steps, or_cases, or_left, eqb-true, true≢false) steps 20000
+tip-more deposit tip (x ∷ xs) link is = grind (arith, common_steps, or_cases, or_left, or_right) steps 20000
 
 -- ---- astray
 
 find-more : (p : RawOpening → Bool) (os : List RawOpening) (o : RawOpening) (n : ℕ)
     → option_map (λ (x : RawOpening). x.block) (find p os) ≡ Some n
     → option_map (λ (x : RawOpening). x.block) (find p (os ++ o ∷ [])) ≡ Some n
-find-more p os o n is =
-    ap (option_map (λ (x : RawOpening). x.block)) (find-append p os (o ∷ [])) ∙ first (find p os) is
-  where
-    first : (a : Option RawOpening) → option_map (λ (x : RawOpening). x.block) a ≡ Some n
-        → option_map (λ (x : RawOpening). x.block) (option_or a (find p (o ∷ []))) ≡ Some n
-    first None wrong = absurd (cc wrong)
-    first (Some x) same = same
+find-more p os o n is = grind (arith, common_steps, find-append) steps 20000
 
 find-nothing : (p : RawOpening → Bool) (os : List RawOpening) → AllByRecursion (λ x. p x ≡ false) os
     → find p os ≡ None
@@ -119,10 +57,7 @@ find-nothing p (o ∷ os) all =
 
 find-last : (p : RawOpening → Bool) (os : List RawOpening) (o : RawOpening) → AllByRecursion (λ x. p x ≡ false) os
     → p o ≡ true → find p (os ++ o ∷ []) ≡ Some o
-find-last p os o all is =
-    find-append p os (o ∷ [])
-    ∙ ap (λ (a : Option RawOpening). option_or a (find p (o ∷ []))) (find-nothing p os all)
-    ∙ ap (λ (b : Bool). if b then Some o else None) is
+find-last p os o all is = grind (arith, common_steps, find-append, find-nothing) steps 20000
 
 module _ (tests : Tests) (rules : Rules) (coin : ℕ) (made : CoinView) where
   abbrev linked_up : List Link → Links
@@ -175,10 +110,7 @@ module _ (tests : Tests) (rules : Rules) (coin : ℕ) (made : CoinView) where
         let same : h.made ≡ made = some_same h.made made (sym h.coin ∙ coin_is) in
         let shown : links ≡ links_of rules made bundle =
         h.shown ∙ ap (λ (m : CoinView). links_of rules m bundle) same in (
-          record {
-            leaves = recursion_from_All (IsLeaf rules coin) (reverse (o ∷ older)) h.leaves;
-            linked = subst (λ (l : Links). AreLinked tests l.deposit l.owner l.spends) shown h.linked;
-          },
+          grind (arith, common_steps, recursion_from_All) steps 20000,
           every-last (λ x. x.block ≡ o.block → is_absent x ≡ false) (reverse older) o
               (subst (AllByRecursion (λ (x : RawOpening). x.block ≡ o.block → is_absent x ≡ false))
               (reverse-cons o older)
@@ -190,16 +122,7 @@ module _ (tests : Tests) (rules : Rules) (coin : ℕ) (made : CoinView) where
     bare-history : (tip : ℕ) → made.deposit ≡ tip
         → IsHistory tests rules log (record { coin = coin; tip = tip; openings = [] }) (linked_up [])
     unfolding AreLinked
-    bare-history tip e = record {
-      made = made;
-      coin = coin_is;
-      blocks = sym (ap (committed_blocks log made.deposit) (sym e) ∙ none-committed log made.deposit);
-      opened = All-from_recursion (λ x. opens_block tests log coin x ≡ true) [] tt;
-      leaves = All-from_recursion (IsLeaf rules coin) [] tt;
-      shown = ap linked_up (sym (none-linked rules coin));
-      linked = tt;
-      tip = e;
-    }
+    bare-history tip e = grind (arith, common_steps, none-committed, none-linked) steps 20000
 
     abbrev longest : List RawOpening → Links
     longest rev = longest_history tests rules log coin made rev
@@ -209,21 +132,14 @@ module _ (tests : Tests) (rules : Rules) (coin : ℕ) (made : CoinView) where
         → IsFine tests rules coin made (reverse (o ∷ older)) → is_absent o ≡ false
         → longest (o ∷ older) ≡ linked_up (links_in rules coin (reverse (o ∷ older)))
     unfolding longest_history
-    longest-more o older kept fine there =
-        ap (links_or (longest older)) (histories_pass tests rules log (bundle_of (o ∷ older))
-        (links_of rules made (bundle_of (o ∷ older))) (history-fine o older kept fine there))
+    longest-more o older kept fine there = grind (arith, common_steps, histories_pass, history-fine) steps 20000
 
     -- and where the newest one isn't a link behind them it stays
     longest-same : (o : RawOpening) (older : List RawOpening) → AreKept tests log coin made (o ∷ older)
         → (IsFine tests rules coin made (reverse (o ∷ older)) → is_absent o ≡ false → ⊥)
         → longest (o ∷ older) ≡ longest older
     unfolding longest_history
-    longest-same o older kept none =
-        (elim (history_of tests rules log (bundle_of (o ∷ older))) as (λ r.
-        history_of tests rules log (bundle_of (o ∷ older)) ≡ r → links_or (longest older) r ≡ longest older) [
-          | Ok links ↦ λ is. let both = fine-history o older links kept is in absurd (none both.0 both.1)
-          | Err why ↦ λ is. refl
-        ]) refl
+    longest-same o older kept none = grind (arith, common_steps, fine-history) steps 20000
 
     -- ---- what is carried
 
@@ -247,15 +163,8 @@ module _ (tests : Tests) (rules : Rules) (coin : ℕ) (made : CoinView) where
 
     scanned-none : IsScanned [] (record { spends = []; broken = None })
     unfolding longest_history
-    scanned-none = record {
-      links = ap linked_up (none-linked rules coin);
-      below = tt;
-      broken = (fine-none tests rules coin made, sym (none-linked rules coin), tt);
-      begins = λ tip is. elim (or_cases (made.deposit == tip) false is) [
-        | inl here ↦ bare-history tip (eqb-true made.deposit tip here)
-        | inr wrong ↦ absurd (true≢false (sym wrong))
-      ];
-    }
+    scanned-none =
+        grind (arith, common_steps, none-linked, fine-none, or_cases, bare-history, eqb-true, true≢false) steps 20000
 
     module _ (o : RawOpening) (older : List RawOpening) (kept : AreKept tests log coin made (o ∷ older))
         (past : newest_block made.deposit older < o.block) (kept_older : AreKept tests log coin made older)
@@ -267,9 +176,7 @@ module _ (tests : Tests) (rules : Rules) (coin : ℕ) (made : CoinView) where
       order = reverse-cons o older
 
       still-below : AllByRecursion (λ (link : Link). link.block ≤ o.block) carried.spends
-      still-below =
-          every-weaker (λ link. link.block ≤ newest_block made.deposit older) (λ link. link.block ≤ o.block)
-          (λ link le. omega arith) carried.spends is.below
+      still-below = grind (arith, common_steps, every-weaker) steps 20000
 
       tip-past : (tip : ℕ) → is_tip (linked_up carried.spends) tip ≡ true → tip < o.block
       tip-past tip at =
@@ -317,14 +224,9 @@ module _ (tests : Tests) (rules : Rules) (coin : ℕ) (made : CoinView) where
             → IsScanned (o ∷ older) (record { spends = carried.spends; broken = None })
         absence-stays absent =
             scanned-same None (
-              subst (IsFine tests rules coin made) (sym order)
-                  (fine-absent tests rules coin made os o absent state.0),
-              state.1 ∙ sym (ap (links_in rules coin) order
-                  ∙ links-none rules coin os o (absent-none rules coin o absent)),
-              subst (AllByRecursion (λ (x : RawOpening). is_astray (tip_from made.deposit carried.spends) x ≡ false))
-                  (sym order)
-                  (every-push (λ x. is_astray (tip_from made.deposit carried.spends) x ≡ false) os o state.2
-                  (absent-not_astray (tip_from made.deposit carried.spends) o absent)),
+              grind (arith, common_steps, order, fine-absent) steps 20000,
+              grind (arith, common_steps, order, links-none, absent-none) steps 20000,
+              grind (arith, common_steps, tip_from, order, every-push, absent-not_astray) steps 20000,
             ) (λ fine there. true≢false (sym absent ∙ there))
 
         -- the next link
@@ -336,8 +238,7 @@ module _ (tests : Tests) (rules : Rules) (coin : ℕ) (made : CoinView) where
             let fine : IsFine tests rules coin made (reverse (o ∷ older)) =
             subst (IsFine tests rules coin made) (sym order) (fine-next tests rules coin made os o tx shows state.0) in
             let all : links_in rules coin (reverse (o ∷ older)) ≡ carried.spends ++ with_tx o tx ∷ [] =
-            ap (links_in rules coin) order ∙ links-some rules coin os o tx next.tx_is
-            ∙ ap (λ (l : List Link). l ++ with_tx o tx ∷ []) (sym state.1) in
+            grind (arith, common_steps, order, links-some, with_tx) steps 20000 in
             let tip_is : tip_from made.deposit (carried.spends ++ with_tx o tx ∷ []) ≡ o.block =
             last-push (λ link. link.block) made.deposit carried.spends (with_tx o tx) in
             let low : AllByRecursion (λ (x : RawOpening). x.block ≤ o.block) (reverse (o ∷ older)) =
@@ -352,8 +253,7 @@ module _ (tests : Tests) (rules : Rules) (coin : ℕ) (made : CoinView) where
                 sym all,
                 every-weaker (λ x. x.block ≤ o.block)
                     (λ x. is_astray (tip_from made.deposit (carried.spends ++ with_tx o tx ∷ [])) x ≡ false)
-                    (λ x le. not-astray (tip_from made.deposit (carried.spends ++ with_tx o tx ∷ [])) x
-                    (omega (arith, tip_is))) (reverse (o ∷ older)) low,
+                    (grind (arith, common_steps, not-astray, tip_from, with_tx) steps 20000) (reverse (o ∷ older)) low,
               );
               begins = λ tip at. elim (tip-more made.deposit tip carried.spends (with_tx o tx) at) [
                 | inl old ↦
@@ -380,19 +280,13 @@ module _ (tests : Tests) (rules : Rules) (coin : ℕ) (made : CoinView) where
             → ((tx : SignedTx) → IsNextLink tests rules coin made carried.spends o tx → ⊥)
             → IsScanned (o ∷ older) (record { spends = carried.spends; broken = Some o.block })
         link-breaks there none =
-            let unfine : IsFine tests rules coin made (reverse (o ∷ older)) → ⊥ = λ fine.
-            let last = fine-last tests rules coin made os o there (subst (IsFine tests rules coin made) order fine) in
-            none last.0 (subst (λ (l : List Link). IsNextLink tests rules coin made l o last.0) (sym state.1) last.1) in
+            let unfine : IsFine tests rules coin made (reverse (o ∷ older)) → ⊥ =
+            grind (arith, common_steps, fine-last, order) steps 20000 in
             let tip : ℕ = tip_from made.deposit carried.spends in
-            let less : tip < o.block = tip-under made.deposit carried.spends
-            (let low = kept-deposit tests log coin made older kept_older in omega arith)
-            (every-weaker (λ link. link.block ≤ newest_block made.deposit older) (λ link. link.block < o.block)
-            (λ link le. omega arith) carried.spends is.below) in
+            let less : tip < o.block = grind (arith, common_steps, tip-under, kept-deposit, every-weaker) steps 20000 in
             scanned-same (Some o.block) (
               unfine,
-              ap (broken_behind tip) order
-                  ∙ ap (option_map (λ (x : RawOpening). x.block)) (find-last (is_astray tip) os o state.2
-                  (and_from (nat_lt tip o.block) (not (is_absent o)) (lt-ltb tip o.block less) (ap not there))),
+              grind (arith, common_steps, order, find-last, and_from, lt-ltb) steps 20000,
             ) (λ fine far. unfine fine)
           where
             tip-under : (deposit : ℕ) (links : List Link) → deposit < o.block
@@ -473,10 +367,7 @@ module _ (tests : Tests) (rules : Rules) (coin : ℕ) (made : CoinView) where
 
     broken-found : (rev : List RawOpening) (links : List Link) (broken : Option ℕ) → IsBroken rev links broken
         → broken_behind (tip_from made.deposit links) (reverse rev) ≡ broken
-    broken-found rev links None state =
-        ap (option_map (λ (x : RawOpening). x.block))
-        (find-nothing (is_astray (tip_from made.deposit links)) (reverse rev) state.2)
-    broken-found rev links (Some n) state = state.1
+    broken-found rev links broken state = grind (arith, common_steps, find-nothing, tip_from) steps 20000
 
     -- a scan of the kept openings finds what is carried of them
     pub scan-carried : (kept : List RawOpening) → reverse (reverse kept) ≡ kept

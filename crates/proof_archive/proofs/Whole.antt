@@ -1,26 +1,5 @@
 -- What callers see of an archive, by its cells.
-use Rattle.std.proofs.Common.{◌≡◌, ◌≢◌, ℕ, ◌==◌, Bool, true, false, if◌then◌else◌, List, [], ◌∷◌, ◌++◌, map, Some, None, Result, Ok, Err, is_ok, inl, inr, refl, sym, ap, ◌∙◌, subst}
-use Rattle.std.specs.Prelude.{◌||◌}
-use Rattle.std.specs.List.{list_any}
-use Rattle.std.specs.Map.{lookup}
-use Rattle.std.specs.Option.{unwrap_or}
-use Rattle.std.specs.Ordering.{nat_cmp}
-use Rattle.std.specs.BTreeMap.{BTreeMap, is_at}
-use Rattle.std.proofs.lemmas.Bool.{cases_eq, eq-eqb, ne_eqb}
-use Rattle.plasma_tx.specs.declared.opening.RawOpening.{RawOpening}
-use Rattle.plasma_tx.specs.declared.views.CoinView.{CoinView}
-use Rattle.plasma_tx.specs.Chain.{Chain}
-use Rattle.plasma_tx.specs.Views.{coin_at}
-use Rattle.plasma_tx.specs.Shown.{tests_by, rules_of}
-use Rattle.coin_history.specs.declared.bundle.Bundle.{Bundle}
-use Rattle.coin_history.specs.Bundles.{AreRising}
-use Rattle.proof_archive.specs.declared.coin.LinkEnd.{LinkEnd}
-use Rattle.proof_archive.specs.declared.coin.Move.{Move}
-use Rattle.proof_archive.specs.declared.refusal.ArchiveRefusal.{ArchiveRefusal}
-use Rattle.proof_archive.specs.declared.refusal.ArchiveRefusal.TheVariants.{NoCoin, NotTip}
-use Rattle.proof_archive.specs.Archives.{place_in, put_at, put_answer, tip_answer, broken_answer, openings_up_to, bundle_answer}
-use Rattle.proof_archive.specs.Carried.{CoinCell, tip_in, with_opening, IsCell, cell_in, openings_of, IsWhole}
-use Rattle.proof_archive.specs.Laws.{StaysAHistory}
+use Rattle.proof_archive.proofs.Words.{◌≡◌, ◌≢◌, ℕ, ◌==◌, Bool, true, false, if◌then◌else◌, List, [], ◌∷◌, ◌++◌, map, Some, None, Result, Ok, Err, is_ok, sym, ap, ◌∙◌, subst, arith, ◌||◌, list_any, lookup, unwrap_or, nat_cmp, BTreeMap, is_at, cases_eq, eq-eqb, ne_eqb, common_steps, RawOpening, CoinView, Chain, coin_at, tests_by, rules_of, Bundle, AreRising, LinkEnd, Move, ArchiveRefusal, NoCoin, NotTip, place_in, put_at, put_answer, tip_answer, broken_answer, openings_up_to, bundle_answer, CoinCell, tip_in, with_opening, IsCell, cell_in, openings_of, IsWhole, StaysAHistory}
 use Rattle.proof_archive.proofs.CellLaws.{opened-with, cell-made, kept-cell}
 use Rattle.proof_archive.proofs.ByCell.{tip-none, tip-some, bundle-none, bundle-not, bundle-some, bundle-stays, bundle-rises, broken-cell}
 
@@ -34,26 +13,12 @@ seen cells coin = unwrap_or (lookup (is_at (nat_cmp coin)) (map openings_of cell
 pub seen-more : (cells others : BTreeMap ℕ CoinCell) (coin : ℕ) (o : RawOpening) (change : Move)
     → ((c : ℕ) → cell_in others c ≡ (if c == coin then with_opening (cell_in cells coin) o change else cell_in cells c))
     → (c : ℕ) → seen others c ≡ (if c == coin then seen cells coin ++ o ∷ [] else seen cells c)
-seen-more cells others coin o change same c =
-    kept-cell others c ∙ ap (λ (cell : CoinCell). cell.openings) (same c) ∙ at (c == coin)
-  where
-    at : (b : Bool) → (if b then with_opening (cell_in cells coin) o change else cell_in cells c).openings
-        ≡ (if b then seen cells coin ++ o ∷ [] else seen cells c)
-    at true =
-        opened-with (cell_in cells coin) o change
-        ∙ ap (λ (os : List RawOpening). os ++ o ∷ []) (sym (kept-cell cells coin))
-    at false = sym (kept-cell cells c)
+seen-more cells others coin o change same c = grind (arith, common_steps, kept-cell, opened-with) steps 20000
 
 -- where no cell is changed, they see the same
 pub seen-same : (cells others : BTreeMap ℕ CoinCell) (coin : ℕ) → ((c : ℕ) → cell_in others c ≡ cell_in cells c)
     → (c : ℕ) → seen others c ≡ (if c == coin then seen cells coin else seen cells c)
-seen-same cells others coin same c =
-    kept-cell others c ∙ ap (λ (cell : CoinCell). cell.openings) (same c) ∙ sym (kept-cell cells c)
-    ∙ elim (cases_eq c coin) [
-      | inl e ↦ ap (seen cells) e
-          ∙ sym (ap (λ (b : Bool). if b then seen cells coin else seen cells c) (eq-eqb c coin e))
-      | inr apart ↦ sym (ap (λ (b : Bool). if b then seen cells coin else seen cells c) (ne_eqb c coin apart))
-    ]
+seen-same cells others coin same c = grind (arith, common_steps, kept-cell, cases_eq, eq-eqb, ne_eqb) steps 20000
 
 -- a put is answered by what they see
 pub put-seen : (dig : List ℕ → List ℕ) (chain : Chain) (cells : BTreeMap ℕ CoinCell) (coin : ℕ) (o : RawOpening)
@@ -94,28 +59,21 @@ module _ (dig : List ℕ → List ℕ) (chain : Chain) (defaults : List (List �
   bundle-unseen tip none = bundle-none dig chain coin (seen cells coin) tip none
 
   pub broken-seen : (cell_in cells coin).broken ≡ broken_answer dig chain (seen cells coin) coin
-  broken-seen =
-      broken-cell dig chain coin (cell_in cells coin) (whole.cells_are coin)
-      ∙ ap (λ (os : List RawOpening). broken_answer dig chain os coin) (sym (kept-cell cells coin))
+  broken-seen = grind (arith, common_steps, broken-cell, kept-cell) steps 20000
 
   module _ (made : CoinView) (some : coin_at chain.log coin ≡ Some made) where
     is_cell : IsCell (tests_by dig) (rules_of chain) chain.log coin made (cell_in cells coin)
-    is_cell = cell-made (tests_by dig) (rules_of chain) chain.log coin (cell_in cells coin) made some
-        (whole.cells_are coin)
+    is_cell = grind (arith, common_steps, cell-made) steps 20000
 
     pub tip-seen : (n : ℕ) → n ≡ tip_in made.deposit (cell_in cells coin).ends
         → Ok n ≡ tip_answer dig chain (seen cells coin) coin
-    tip-seen n is =
-        ap (λ (m : ℕ). Ok m) is ∙ tip-some dig chain coin made (cell_in cells coin) some is_cell
-        ∙ ap (λ (os : List RawOpening). tip_answer dig chain os coin) (sym (kept-cell cells coin))
+    tip-seen n is = grind (arith, common_steps, tip-some, is_cell, kept-cell) steps 20000
 
     module _ (tip : ℕ) (b : Bool)
         (tested : b ≡ ((made.deposit == tip)
         || list_any (λ (end : LinkEnd). end.block == tip) (cell_in cells coin).ends)) where
       pub bundle-not_seen : b ≡ false → Err (NotTip tip) ≡ bundle_answer dig chain (seen cells coin) coin tip
-      bundle-not_seen unmet =
-          bundle-not dig chain coin made (cell_in cells coin) some is_cell tip (sym tested ∙ unmet)
-          ∙ ap (λ (os : List RawOpening). bundle_answer dig chain os coin tip) (sym (kept-cell cells coin))
+      bundle-not_seen unmet = grind (arith, common_steps, bundle-not, is_cell, kept-cell) steps 20000
 
       module _ (met : b ≡ true) (openings : List RawOpening)
           (are : openings ≡ openings_up_to tip (cell_in cells coin).openings) where
@@ -123,24 +81,17 @@ module _ (dig : List ℕ → List ℕ) (chain : Chain) (defaults : List (List �
         bundle_with os = record { coin = coin; tip = tip; openings = os }
 
         pub bundle-seen : Ok (bundle_with openings) ≡ bundle_answer dig chain (seen cells coin) coin tip
-        bundle-seen =
-            ap (λ (os : List RawOpening). Ok (bundle_with os)) are
-            ∙ bundle-some dig chain coin made (cell_in cells coin) some is_cell tip (sym tested ∙ met)
-            ∙ ap (λ (os : List RawOpening). bundle_answer dig chain os coin tip) (sym (kept-cell cells coin))
+        bundle-seen = grind (arith, common_steps, bundle-some, is_cell, kept-cell) steps 20000
 
         pub stays-seen : StaysAHistory dig chain (seen cells coin) coin tip (bundle_with openings)
         stays-seen =
             subst (λ (os : List RawOpening). StaysAHistory dig chain os coin tip (bundle_with openings))
             (sym (kept-cell cells coin))
-            (subst (λ (os : List RawOpening). StaysAHistory dig chain (cell_in cells coin).openings coin tip
-            (bundle_with os)) (sym are)
-            (bundle-stays dig chain coin made (cell_in cells coin) some is_cell tip (sym tested ∙ met)))
+            (grind (arith, common_steps, bundle-stays, is_cell) steps 20000)
 
         pub rises-seen : AreRising openings
         rises-seen = subst AreRising (sym are)
             (bundle-rises dig chain coin made (cell_in cells coin) some is_cell tip (sym tested ∙ met))
 
       pub bundle-made : b ≡ true → is_ok (bundle_answer dig chain (seen cells coin) coin tip) ≡ true
-      bundle-made met =
-          ap (λ (r : Result Bundle ArchiveRefusal). is_ok r)
-          (sym (bundle-seen met (openings_up_to tip (cell_in cells coin).openings) refl))
+      bundle-made met = grind (arith, common_steps, bundle-seen) steps 20000

@@ -1,5 +1,4 @@
-use Rattle.std.proofs.Common.{◌≡◌, take}
-use Rattle.proof_archive.specs.Archives.{openings_up_to}
+use Rattle.proof_archive.proofs.Words.{◌≡◌, take, openings_up_to}
 use Rattle.proof_archive.proofs.coin.copies_up_to.Given as goal
 
 abbrev pub invariant-loop-opening : goal.invariant-loop-opening

@@ -1,9 +1,4 @@
-use Rattle.std.proofs.Common.{◌≡◌, ℕ, ◌^◌, length, Err, sym, ap, ◌∙◌}
-use Rattle.std.proofs.lemmas.Bool.{ltb-true}
-use Rattle.std.proofs.lemmas.Result.{err_from_is_err_and}
-use Rattle.plasma_tx.specs.Shown.{Tests, tests_by, rules_of}
-use Rattle.proof_archive.specs.declared.refusal.ArchiveRefusal.{ArchiveRefusal}
-use Rattle.proof_archive.specs.Archives.{fits}
+use Rattle.proof_archive.proofs.Words.{◌≡◌, ℕ, ◌^◌, length, Err, sym, ap, ◌∙◌, ltb-true, err_from_is_err_and, Tests, tests_by, rules_of, ArchiveRefusal, fits}
 use Rattle.proof_archive.proofs.Places.{put-uncoined, put-unplaced, put-long, put-unopened, put-opened, put-kept, put-placed, put-counted}
 use Rattle.proof_archive.proofs.CellLaws.{cell-made, cell-judged}
 use Rattle.proof_archive.proofs.putting.judged.Goals as goal

@@ -1,9 +1,5 @@
-use Rattle.std.proofs.Common.{true, false, sym, ap, ◌∙◌, Some, None}
-use Rattle.std.proofs.lemmas.Bool.{eq-eqb, ne_eqb}
-use Rattle.plasma_tx.specs.Transfer.{is_signed_by}
-use Rattle.plasma_tx.specs.Shown.{tests_by, rules_of}
+use Rattle.proof_archive.proofs.Words.{true, false, sym, ap, ◌∙◌, Some, None, eq-eqb, ne_eqb, is_signed_by, tests_by, rules_of, tip_in}
 use Rattle.coin_history.proofs.CheckFacts.{absent-from}
-use Rattle.proof_archive.specs.Carried.{tip_in}
 use Rattle.proof_archive.proofs.Moves.{transfer-read, move-absent, move-broken, move-none, move-apart, move-unsigned, move-link}
 use Rattle.proof_archive.proofs.putting.move_of.Goals as goal
 

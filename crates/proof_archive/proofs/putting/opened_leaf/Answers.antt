@@ -1,6 +1,4 @@
-use Rattle.plasma_tx.specs.Shown.{tests_by}
-use Rattle.coin_history.specs.History.{leaf_of_opening}
-use Rattle.coin_history.specs.Checking.{is_asked}
+use Rattle.proof_archive.proofs.Words.{tests_by, leaf_of_opening, is_asked}
 use Rattle.proof_archive.proofs.Places.{opened-ok, opened-err}
 use Rattle.proof_archive.proofs.putting.opened_leaf.Goals as goal
 

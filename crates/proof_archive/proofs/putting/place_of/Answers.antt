@@ -1,7 +1,4 @@
-use Rattle.std.proofs.Common.{ℕ, ◌^◌, sym, ◌∙◌, subst, arith}
-use Rattle.std.proofs.lemmas.Bool.{ltb-true}
-use Rattle.coin_history.specs.Checking.{is_asked}
-use Rattle.coin_history.specs.Inside.{NoneIsAsked, IsFirstAsked}
+use Rattle.proof_archive.proofs.Words.{ℕ, ◌^◌, sym, ◌∙◌, subst, arith, ltb-true, is_asked, NoneIsAsked, IsFirstAsked}
 use Rattle.proof_archive.proofs.Places.{asked-le, place-unknown, place-wide, place-have, place-gap}
 use Rattle.proof_archive.proofs.putting.place_of.Goals as goal
 

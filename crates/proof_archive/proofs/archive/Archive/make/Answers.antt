@@ -1,5 +1,4 @@
-use Rattle.std.proofs.Common.{ap}
-use Rattle.plasma_tx.specs.Chain.{Chain}
+use Rattle.proof_archive.proofs.Words.{ap, Chain}
 use Rattle.proof_archive.proofs.CellLaws.{whole-none}
 use Rattle.proof_archive.proofs.archive.Archive.make.Goals as goal
 

@@ -1,10 +1,4 @@
-use Rattle.std.proofs.Common.{◌≡◌, Ok, Err, refl, sym, ap, ◌∙◌}
-use Rattle.std.proofs.lemmas.Result.{err_from_is_err_and}
-use Rattle.proof_archive.specs.declared.refusal.ArchiveRefusal.{ArchiveRefusal}
-use Rattle.proof_archive.specs.declared.refusal.ArchiveRefusal.TheVariants.{NoMemory}
-use Rattle.proof_archive.specs.Carried.{cell_in, with_opening}
-use Rattle.plasma_tx.specs.Views.{coin_at}
-use Rattle.plasma_tx.specs.Shown.{tests_by}
+use Rattle.proof_archive.proofs.Words.{◌≡◌, Ok, Err, refl, sym, ap, ◌∙◌, err_from_is_err_and, ArchiveRefusal, NoMemory, cell_in, with_opening, coin_at, tests_by}
 use Rattle.proof_archive.proofs.Places.{put-found}
 use Rattle.proof_archive.proofs.CellLaws.{whole-put, whole-same}
 use Rattle.proof_archive.proofs.Whole.{seen-more, seen-same, put-seen, placed-seen, refusal-same}
