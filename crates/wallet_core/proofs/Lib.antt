@@ -1,2 +1,3 @@
+pub mod Words
 pub mod StateLaws
 pub mod OwnCoins

@@ -1,23 +1,15 @@
 -- The greatest of some numbers, the lowest leaf, and the laws of what a coin is to a wallet.
-use Rattle.std.proofs.Common.{◌≡◌, ◌≢◌, ◌<◌, ◌≤◌, ◌+◌, ◌==◌, ◌&&◌, ◌||◌, ◌⊎◌, inl, inr, max, not, Bool, true, false, cond, if◌then◌else◌, List, [], ◌∷◌, length, slice_index_or, ℕ, zero, suc, Option, Some, None, is_some, is_none, find, slice_get, refl, sym, ap, subst, ◌∙◌, arith}
-use Rattle.std.specs.List.{fold, reduce, list_any, range_with_len, All, Contains}
+use Rattle.wallet_core.proofs.Words.{◌≡◌, ◌≢◌, ◌<◌, ◌≤◌, ◌+◌, ◌==◌, ◌&&◌, ◌||◌, ◌⊎◌, inl, inr, max, not, Bool, true, false, cond, if◌then◌else◌, List, [], ◌∷◌, length, slice_index_or, ℕ, zero, suc, Option, Some, None, is_some, is_none, find, refl, sym, ap, subst, ◌∙◌, arith, fold, reduce, list_any, range_with_len, All, Contains, nat_cmp, cond-true, cond-false, cases_lt, cases_eq, eq-eqb, and_left, and_parts, and_from, or_right, list_any_at, common_steps, RootCall, coin_at, is_withdrawn, tips_of, greatest, sends_by, spends_tip, sending_leaf, is_noted, state_at, state_by, state_of, holds, is_signed_away, IsTip, IsLowestLeaf, NoLeaf, SendingIs, LeavingIs, HeldIs, NothingIs, KeptCoinsAreHeld, HeldCoinsAreKept}
 use Rattle.std.specs.Option.{option_map_or}
-use Rattle.std.specs.Ordering.{nat_cmp}
 use Rattle.std.specs.BTreeMap.{is_at}
-use Rattle.std.proofs.lemmas.Bool.{cond-true, cond-false, cases_lt, cases_eq, eq-eqb, and_left, and_parts, and_from, or_right}
 use Rattle.std.proofs.lemmas.List.Elements.{All-contains}
-use Rattle.std.proofs.lemmas.List.Folds.{list_any_at}
 use Rattle.std.proofs.lemmas.Option.{slice_get_past, slice_get-get_or}
 use Rattle.std.proofs.Math.Nat.{le-max_left}
 use Rattle.plasma_tx.proofs.States.{is_at-nat}
-use Rattle.plasma_tx.specs.declared.call.RootCall.{RootCall}
 use Rattle.plasma_tx.specs.declared.views.CoinView.{CoinView}
-use Rattle.plasma_tx.specs.Views.{coin_at, is_withdrawn}
 use Rattle.wallet_core.specs.declared.notes.LeafRecord.{LeafRecord}
 use Rattle.wallet_core.specs.declared.notes.Notes.{Notes}
 use Rattle.wallet_core.specs.declared.coin_state.CoinState.TheVariants.{Nothing, Sending, Leaving, Held}
-use Rattle.wallet_core.specs.State.{tips_of, greatest, sends_by, spends_tip, sending_leaf, is_noted, state_at, state_by, state_of, holds, is_signed_away}
-use Rattle.wallet_core.specs.Laws.{IsTip, IsLowestLeaf, NoLeaf, SendingIs, LeavingIs, HeldIs, NothingIs, KeptCoinsAreHeld, HeldCoinsAreKept}
 
 -- ---- the greatest of some numbers
 
@@ -27,11 +19,7 @@ max_assoc a b c = omega arith
 fold_max : (a : ℕ) (xs : List ℕ) → fold max a xs ≡ option_map_or (max a) (greatest xs) a
 unfolding greatest
 fold_max a [] = refl
-fold_max a (x ∷ xs) = fold_max (max a x) xs ∙ elim (greatest xs)
-    as (λ o. option_map_or (max (max a x)) o (max a x) ≡ max a (option_map_or (max x) o x)) [
-      | None ↦ refl
-      | Some m ↦ max_assoc a x m
-    ]
+fold_max a (x ∷ xs) = grind (arith, common_steps, fold_max (max a x) xs, max_assoc) steps 20000
 
 -- the greatest, as a chain of std picks it
 pub reduce_max : (xs : List ℕ) → reduce max xs ≡ greatest xs
@@ -54,11 +42,7 @@ abbrev IsGreatest : List ℕ → ℕ → Type 0
 IsGreatest xs m = Contains xs m × All (λ x. x ≤ m) xs
 
 alone : (x : ℕ) → IsGreatest (x ∷ []) x
-alone x = ((0, (omega arith), refl), only)
-  where
-    only : All (λ y. y ≤ x) (x ∷ [])
-    only zero d h = omega arith
-    only (suc i) d h = absurd (omega arith)
+alone x = grind (arith, common_steps) steps 20000
 
 -- one more number, where m is the greatest of the others
 one_more : (x m : ℕ) (xs : List ℕ) → IsGreatest xs m → IsGreatest (x ∷ xs) (max x m)
@@ -76,10 +60,7 @@ one_more x m xs ((k, lt, is), all) = (
 
 by_rest : (x m : ℕ) (xs : List ℕ) → ((y : ℕ) → greatest xs ≡ Some y → IsGreatest xs y) → (o : Option ℕ)
     → greatest xs ≡ o → Some (option_map_or (max x) o x) ≡ Some m → IsGreatest (x ∷ xs) m
-by_rest x m xs rest None none is =
-    let x_is : x ≡ m = cc is in
-    let nil : [] ≡ xs = sym (no_greatest xs none) in
-    subst (λ (ys : List ℕ). IsGreatest (x ∷ ys) m) nil (subst (IsGreatest (x ∷ [])) x_is (alone x))
+by_rest x m xs rest None none is = grind (arith, common_steps, no_greatest, alone) steps 20000
 by_rest x m xs rest (Some y) some is =
     let max_is : max x y ≡ m = cc is in subst (IsGreatest (x ∷ xs)) max_is (one_more x y xs (rest y some))
 
@@ -100,8 +81,7 @@ is_greatest xs m one most = by (greatest xs) refl
         let is = the_greatest xs y some in
         let m_below : m ≤ y = All-contains (λ x. x ≤ y) xs m is.1 one in
         let y_below : y ≤ m = All-contains (λ x. x ≤ m) xs y most is.0 in
-        let same : y ≡ m = omega arith in
-        ap Some same
+        grind (arith, common_steps) steps 20000
 
 -- ---- numbers in a set
 
@@ -139,21 +119,7 @@ none_at p a (suc n) all =
 first_is : (p : ℕ → Bool) (a n q : ℕ) → find p (range_with_len a n) ≡ Some q
     → (p q ≡ true) × ((k : ℕ) → a ≤ k → k < q → p k ≡ false)
 first_is p a zero q e = absurd (cc e)
-first_is p a (suc n) q e = by (p a) refl e (first_is p (a + 1) n q)
-  where
-    by : (b : Bool) → p a ≡ b → cond b (Some a) (find p (range_with_len (a + 1) n)) ≡ Some q
-        → (find p (range_with_len (a + 1) n) ≡ Some q
-        → (p q ≡ true) × ((k : ℕ) → a + 1 ≤ k → k < q → p k ≡ false))
-        → (p q ≡ true) × ((k : ℕ) → a ≤ k → k < q → p k ≡ false)
-    by true is same rest =
-        let e : a ≡ q = cc same in (ap p (sym e) ∙ is, λ k l h. absurd (omega arith))
-    by false is same rest = (
-      (rest same).0,
-      λ k l h. elim (cases_eq a k) [
-        | inl here ↦ ap p (sym here) ∙ is
-        | inr later ↦ (rest same).1 k (omega arith) h
-      ],
-    )
+first_is p a (suc n) q e = grind (arith, common_steps, first_is p (a + 1) n q, cases_eq) steps 20000
 
 all_fail : (p : ℕ → Bool) (a n : ℕ) → find p (range_with_len a n) ≡ None
     → (k : ℕ) → a ≤ k → k < a + n → p k ≡ false
@@ -163,28 +129,20 @@ all_fail p a (suc n) e k l h = by (p a) refl e (λ r b t. all_fail p (a + 1) n r
     by : (b : Bool) → p a ≡ b → cond b (Some a) (find p (range_with_len (a + 1) n)) ≡ None
         → (find p (range_with_len (a + 1) n) ≡ None → a + 1 ≤ k → k < a + 1 + n → p k ≡ false) → p k ≡ false
     by true is none rest = absurd (cc none)
-    by false is none rest = elim (cases_eq a k) [
-      | inl here ↦ ap p (sym here) ∙ is
-      | inr later ↦ rest none (omega arith) (omega arith)
-    ]
+    by false is none rest = grind (arith, common_steps, cases_eq) steps 20000
 
 -- ---- the lowest leaf
 
 past_leaves : (reclaimed : List ℕ) (leaves : List LeafRecord) (coin tip q : ℕ) → length leaves ≤ q
     → sends_by reclaimed leaves coin tip q ≡ false
-past_leaves reclaimed leaves coin tip q past =
-    and_left (option_map_or (spends_tip coin tip) (slice_get leaves q) false) _
-    (ap (λ (o : Option LeafRecord). option_map_or (spends_tip coin tip) o false) (slice_get_past leaves q past))
+past_leaves reclaimed leaves coin tip q past = grind (arith, common_steps, and_left, slice_get_past) steps 20000
 
 -- a leaf signs the coin away by what it binds and by its number
 pub sends_at : (reclaimed : List ℕ) (leaves : List LeafRecord) (coin tip q : ℕ) (leaf : LeafRecord)
     → q < length leaves
     → sends_by reclaimed leaves coin tip q
     ≡ (spends_tip coin tip (slice_index_or leaves q leaf) && not (list_any (λ other. other == q) reclaimed))
-sends_at reclaimed leaves coin tip q leaf inside =
-    ap (λ (o : Option LeafRecord).
-    option_map_or (spends_tip coin tip) o false && not (list_any (λ other. other == q) reclaimed))
-    (slice_get-get_or leaves q leaf inside)
+sends_at reclaimed leaves coin tip q leaf inside = grind (arith, common_steps, slice_get-get_or) steps 20000
 
 -- the leaf that signs the coin away is the lowest one
 pub sending_lowest : (reclaimed : List ℕ) (leaves : List LeafRecord) (coin tip q : ℕ)
@@ -195,8 +153,7 @@ unfolding sending_leaf
 sending_lowest reclaimed leaves coin tip q sends before = elim (cases_lt q (length leaves)) [
   | inl inside ↦ first_at (sends_by reclaimed leaves coin tip) 0 (length leaves) q (omega arith) (omega arith) sends
       (λ k l h. before k h)
-  | inr past ↦ let no : sends_by reclaimed leaves coin tip q ≡ false = past_leaves reclaimed leaves coin tip q past in
-      absurd (cc (sends, no))
+  | inr past ↦ grind (arith, common_steps, past_leaves) steps 20000
 ]
 
 -- no leaf signs it away
@@ -210,9 +167,7 @@ sending_none reclaimed leaves coin tip all =
 lowest_sending : (notes : Notes) (leaves : List LeafRecord) (coin tip q : ℕ)
     → sending_leaf notes.reclaimed leaves coin tip ≡ Some q → IsLowestLeaf notes leaves coin tip q
 unfolding sending_leaf
-lowest_sending notes leaves coin tip q e =
-    let is = first_is (sends_by notes.reclaimed leaves coin tip) 0 (length leaves) q e in
-    record { sends = is.0; lowest = λ k h. is.1 k (omega arith) h }
+lowest_sending notes leaves coin tip q e = grind (arith, common_steps, first_is) steps 20000
 
 none_sending : (notes : Notes) (leaves : List LeafRecord) (coin tip : ℕ)
     → sending_leaf notes.reclaimed leaves coin tip ≡ None → NoLeaf notes leaves coin tip
@@ -245,20 +200,9 @@ IsAbsent notes log coin = (coin_at log coin ≡ None) ⊎ (is_withdrawn log coin
 absent : (notes : Notes) (leaves : List LeafRecord) (log : List RootCall) (coin : ℕ) → IsAbsent notes log coin
     → state_of notes leaves log coin ≡ Nothing
 unfolding state_of
-absent notes leaves log coin (inl no_coin) =
-    ap (λ (o : Option CoinView). if is_none o || is_withdrawn log coin then Nothing
-    else state_by notes leaves coin (greatest (tips_of notes log coin))) no_coin
-absent notes leaves log coin (inr (inl withdrawn)) =
-    ap (λ (b : Bool). if b then Nothing else state_by notes leaves coin (greatest (tips_of notes log coin)))
-    (or_right (is_none (coin_at log coin)) (is_withdrawn log coin) withdrawn)
-absent notes leaves log coin (inr (inr no_tips)) =
-    ap (λ (o : Option ℕ). if is_none (coin_at log coin) || is_withdrawn log coin then Nothing
-    else state_by notes leaves coin o) (none_is_greatest (tips_of notes log coin) no_tips)
-    ∙ same (is_none (coin_at log coin) || is_withdrawn log coin)
-  where
-    same : (b : Bool) → (if b then Nothing else Nothing) ≡ Nothing
-    same true = refl
-    same false = refl
+absent notes leaves log coin (inl no_coin) = grind (arith, common_steps) steps 20000
+absent notes leaves log coin (inr (inl withdrawn)) = grind (arith, common_steps, or_right) steps 20000
+absent notes leaves log coin (inr (inr no_tips)) = grind (arith, common_steps, none_is_greatest) steps 20000
 
 -- each coin is absent or has a tip
 absent_or_tip : (notes : Notes) (log : List RootCall) (coin : ℕ)
@@ -279,42 +223,18 @@ absent_or_tip notes log coin =
 -- by what leaf and what note a coin is what it is at its tip
 sends_there : (notes : Notes) (coin t tip q : ℕ) (o : Option ℕ) → state_at notes coin t o ≡ Sending tip q
     → (t ≡ tip) × (o ≡ Some q)
-sends_there notes coin t tip q (Some p) e = (cc e, ap Some (cc e))
-sends_there notes coin t tip q None e = by (is_noted coin t notes.leaving) e
-  where
-    by : (b : Bool) → (if b then Leaving t else Held t) ≡ Sending tip q → (t ≡ tip) × (None ≡ Some q)
-    by true e = absurd (cc e)
-    by false e = absurd (cc e)
+sends_there notes coin t tip q o e = grind (arith, common_steps) steps 20000
 
 leaves_there : (notes : Notes) (coin t tip : ℕ) (o : Option ℕ) → state_at notes coin t o ≡ Leaving tip
     → (t ≡ tip) × (o ≡ None) × (is_noted coin t notes.leaving ≡ true)
-leaves_there notes coin t tip (Some p) e = absurd (cc e)
-leaves_there notes coin t tip None e =
-    let is = by (is_noted coin t notes.leaving) refl e in (is.0, refl, is.1)
-  where
-    by : (b : Bool) → is_noted coin t notes.leaving ≡ b → (if b then Leaving t else Held t) ≡ Leaving tip
-        → (t ≡ tip) × (is_noted coin t notes.leaving ≡ true)
-    by true is e = (cc e, is)
-    by false is e = absurd (cc e)
+leaves_there notes coin t tip o e = grind (arith, common_steps) steps 20000
 
 held_there : (notes : Notes) (coin t tip : ℕ) (o : Option ℕ) → state_at notes coin t o ≡ Held tip
     → (t ≡ tip) × (o ≡ None) × (is_noted coin t notes.leaving ≡ false)
-held_there notes coin t tip (Some p) e = absurd (cc e)
-held_there notes coin t tip None e =
-    let is = by (is_noted coin t notes.leaving) refl e in (is.0, refl, is.1)
-  where
-    by : (b : Bool) → is_noted coin t notes.leaving ≡ b → (if b then Leaving t else Held t) ≡ Held tip
-        → (t ≡ tip) × (is_noted coin t notes.leaving ≡ false)
-    by true is e = absurd (cc e)
-    by false is e = (cc e, is)
+held_there notes coin t tip o e = grind (arith, common_steps) steps 20000
 
 something_there : (notes : Notes) (coin t : ℕ) (o : Option ℕ) → state_at notes coin t o ≡ Nothing → ⊥
-something_there notes coin t (Some p) e = cc e
-something_there notes coin t None e = by (is_noted coin t notes.leaving) e
-  where
-    by : (b : Bool) → (if b then Leaving t else Held t) ≡ Nothing → ⊥
-    by true e = cc e
-    by false e = cc e
+something_there notes coin t o e = grind (arith, common_steps) steps 20000
 
 no_leaf : (notes : Notes) (leaves : List LeafRecord) (coin tip : ℕ) → NoLeaf notes leaves coin tip
     → sending_leaf notes.reclaimed leaves coin tip ≡ None
@@ -402,17 +322,7 @@ has_tip xs m (k, lt, is) = list_any_at (λ x. x == m) xs k m lt (eq-eqb (slice_i
 holds_at : (notes : Notes) (leaves : List LeafRecord) (log : List RootCall) (coin tip : ℕ) → IsTip notes log coin tip
     → NoLeaf notes leaves coin tip → holds notes leaves log coin tip ≡ true
 unfolding holds
-holds_at notes leaves log coin tip is none =
-    and_from _ (not (is_withdrawn log coin))
-    (and_from _ (not (is_signed_away notes leaves coin tip))
-    (and_from (is_some (coin_at log coin)) (list_any (λ t. t == tip) (tips_of notes log coin))
-    (made (coin_at log coin) is.exists) (has_tip (tips_of notes log coin) tip is.is_one))
-    (ap (λ (o : Option ℕ). not (is_some o)) (no_leaf notes leaves coin tip none)))
-    (ap not is.not_withdrawn)
-  where
-    made : (o : Option CoinView) → o ≢ None → is_some o ≡ true
-    made None missing = absurd (missing refl)
-    made (Some coin) missing = refl
+holds_at notes leaves log coin tip is none = grind (arith, common_steps, and_from, has_tip, no_leaf) steps 20000
 
 pub kept_coins_are_held : KeptCoinsAreHeld
 kept_coins_are_held notes leaves log coin tip (inl held) =

@@ -1,5 +1,4 @@
-use Rattle.std.proofs.Common.{◌≡◌, ◌<◌, ℕ, false}
-use Rattle.wallet_core.specs.State.{sends_by}
+use Rattle.wallet_core.proofs.Words.{◌≡◌, ◌<◌, ℕ, false, sends_by}
 use Rattle.wallet_core.proofs.coin_state.sending_leaf.Given as goal
 
 abbrev pub invariant-loop-q : goal.invariant-loop-q

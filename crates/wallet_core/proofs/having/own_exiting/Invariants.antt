@@ -1,8 +1,4 @@
-use Rattle.std.proofs.Common.{◌≡◌, ◌==◌, ◌&&◌, ◌||◌, ℕ, take}
-use Rattle.std.specs.List.{list_any}
-use Rattle.std.specs.Ordering.{nat_cmp}
-use Rattle.std.specs.BTreeSet.{contains}
-use Rattle.plasma_tx.specs.Views.{deposits_of, is_exiting}
+use Rattle.wallet_core.proofs.Words.{◌≡◌, ◌==◌, ◌&&◌, ◌||◌, ℕ, take, list_any, nat_cmp, contains, deposits_of, is_exiting}
 use Rattle.wallet_core.proofs.having.own_exiting.Given as goal
 
 abbrev pub invariant-loop-coin : goal.invariant-loop-coin

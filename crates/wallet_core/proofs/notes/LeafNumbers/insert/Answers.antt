@@ -1,5 +1,4 @@
-use Rattle.std.proofs.Common.{◌==◌, ◌||◌, ap, ◌∙◌, List, ℕ}
-use Rattle.std.specs.List.{list_any}
+use Rattle.wallet_core.proofs.Words.{◌==◌, ◌||◌, ap, ◌∙◌, List, ℕ, list_any}
 use Rattle.wallet_core.proofs.StateLaws.{has_after_insert}
 use Rattle.wallet_core.proofs.notes.LeafNumbers.insert.Goals as goal
 

@@ -1,8 +1,7 @@
-use Rattle.std.proofs.Common.{◌==◌, ◌∙◌, sym, rules, tests}
+use Rattle.wallet_core.proofs.Words.{◌==◌, ◌∙◌, sym, rules, tests, noted_tips}
 use Rattle.std.proofs.lemmas.Iterator.Adapters.{option_map_id}
 use Rattle.std.proofs.lemmas.Iterator.{YieldsList-from_slice, YieldsList-from_map}
 use Rattle.std.proofs.lemmas.Iterator.Consumers.{YieldsList-at, YieldsList-from_filter, max_from_yields_List}
-use Rattle.wallet_core.specs.State.{noted_tips}
 use Rattle.wallet_core.proofs.StateLaws.{reduce_max}
 use Rattle.wallet_core.proofs.notes.Tips.greatest.Goals as goal
 
