@@ -1,39 +1,10 @@
 -- Each call that is due for the history of a coin is accepted, where there is money for a Before.
-use Rattle.std.proofs.Common.{◌≡◌, ℕ, zero, suc, ◌+◌, ◌<◌, ◌≤◌, ◌==◌, true, false, List, [], ◌∷◌, ◌++◌, map, Some, None, inl, inr, refl, sym, ap, ◌∙◌, subst, arith}
-use Rattle.std.specs.Prelude.{slice_get}
-use Rattle.std.specs.Option.{option_map}
-use Rattle.std.specs.List.{AllByRecursion, AllPairs, Contains}
-use Rattle.std.proofs.lemmas.Bool.{cases_eq, eqb-true, eq-eqb, ne_eqb, and_from, lt-ltb, ltb-false}
-use Rattle.std.proofs.lemmas.List.Elements.{recursion_from_All}
-use Rattle.std.proofs.lemmas.Grind.{common_steps}
-use Rattle.plasma_tx.specs.declared.owner.Owner.{Owner}
-use Rattle.plasma_tx.specs.declared.opening.RawOpening.{RawOpening}
-use Rattle.plasma_tx.specs.declared.signed_tx.SignedTx.{SignedTx}
-use Rattle.plasma_tx.specs.declared.links.Link.{Link}
-use Rattle.plasma_tx.specs.declared.links.Links.{Links}
-use Rattle.plasma_tx.specs.declared.call.Shown.TheVariants.{Deposit as AtDeposit, Spend}
-use Rattle.plasma_tx.specs.declared.call.RootCall.{RootCall}
-use Rattle.plasma_tx.specs.declared.call.RootCall.TheVariants.{Deposit}
-use Rattle.plasma_tx.specs.declared.views.ChallengeView.{ChallengeView}
-use Rattle.plasma_tx.specs.declared.views.CoinView.{CoinView}
-use Rattle.plasma_tx.specs.declared.views.ExitView.{ExitView}
-use Rattle.plasma_tx.specs.ChallengeLists.{is_challenged}
-use Rattle.plasma_tx.specs.Links.{tip_of}
-use Rattle.plasma_tx.specs.Views.{now, coins, coin_at, Challenge, Exit, exits, exit_at, exits_of, exit_view, challenge_view, challenge_at}
-use Rattle.plasma_tx.specs.declared.rules.TheConstants.{CHALLENGE_WINDOW, RESPONSE_WINDOW, CHALLENGE_BOND}
-use Rattle.plasma_tx.specs.Shown.{Tests, Rules, root_at}
-use Rattle.plasma_tx.specs.Table.{answer_to, is_accepted}
+use Rattle.watch_duty.proofs.Words.{◌≡◌, ℕ, zero, suc, ◌+◌, ◌<◌, ◌≤◌, ◌==◌, true, false, List, [], ◌∷◌, ◌++◌, map, Some, None, inl, inr, refl, sym, ap, ◌∙◌, subst, arith, slice_get, option_map, AllByRecursion, AllPairs, Contains, cases_eq, eqb-true, eq-eqb, ne_eqb, and_from, lt-ltb, ltb-false, recursion_from_All, common_steps, Owner, RawOpening, SignedTx, Link, Links, AtDeposit, Spend, RootCall, Deposit, ChallengeView, CoinView, ExitView, is_challenged, tip_of, now, coins, coin_at, Challenge, Exit, exits, exit_at, exits_of, exit_view, challenge_view, challenge_at, CHALLENGE_WINDOW, RESPONSE_WINDOW, CHALLENGE_BOND, Tests, Rules, root_at, answer_to, is_accepted, ShowsTx, CancelsAfter, CancelsBetween, Challenges, Responds, some_same, exits-distinct, challenged-once, is_at, tip_from, tip-is, next_link, link_after, tip_shown, due_for, due_of, HaveOneLeaf, is_poor_before, DueCallsAreAccepted}
 use Rattle.plasma_tx.specs.Money.{balance_of}
-use Rattle.plasma_tx.specs.Accepted.{ShowsTx, CancelsAfter, CancelsBetween, Challenges, Responds}
 use Rattle.plasma_tx.proofs.Acceptance.{transfers_are_shown, shown_calls_are_accepted}
-use Rattle.plasma_tx.proofs.Each.{some_same}
-use Rattle.plasma_tx.proofs.RuleNames.{exits-distinct, challenged-once, is_at}
 use Rattle.coin_history.specs.declared.bundle.Bundle.{Bundle}
 use Rattle.coin_history.specs.History.{opens_block, links_in, links_of, AreLinked}
-use Rattle.coin_history.proofs.HistoryLinks.{tip_from, tip-is}
 use Rattle.coin_history.proofs.HistoryShape.{links_rise}
-use Rattle.watch_duty.specs.Duty.{next_link, link_after, tip_shown, due_for, due_of}
-use Rattle.watch_duty.specs.Laws.{HaveOneLeaf, is_poor_before, DueCallsAreAccepted}
 use Rattle.watch_duty.proofs.Members.{Has, has-contains, contains-has, has-left, has-right, has-map, has-filter, has-flat_map, all-has, any-map, only-found, none-found}
 use Rattle.watch_duty.proofs.Shown.{seen, IsSpent, IsShownAt, Deposited, Transferred, IsShownChallenge, IsBegun, OfDeposit, OfSpend, IsShownExit, exits-shown}
 use Rattle.watch_duty.proofs.GuardLinks.{Rises, rises-from, has-above, has-tip, tip-link, IsAt, Follows, follows, next_link-parent, next_link-ordered, IsOpened, links-opened}

@@ -1,20 +1,6 @@
 -- The links of a history: each comes after its parent's block, whose owner signed it, and an opening shows it.
-use Rattle.std.proofs.Common.{◌≡◌, ◌⊎◌, ℕ, zero, suc, ◌<◌, ◌≤◌, ◌==◌, true, false, if◌then◌else◌, List, [], ◌∷◌, map, Option, Some, None, inl, inr, refl, sym, ap, arith}
-use Rattle.std.specs.Option.{option_map, option_map_or}
-use Rattle.std.specs.List.{AllByRecursion, AllPairs, cons_option}
-use Rattle.std.proofs.lemmas.Bool.{eqb-true, eq-eqb, ne_eqb, true≢false}
-use Rattle.std.proofs.lemmas.Grind.{common_steps}
-use Rattle.plasma_tx.specs.declared.owner.Owner.{Owner}
-use Rattle.plasma_tx.specs.declared.opening.RawOpening.{RawOpening}
-use Rattle.plasma_tx.specs.declared.signed_tx.SignedTx.{SignedTx}
-use Rattle.plasma_tx.specs.declared.links.Link.{Link}
-use Rattle.plasma_tx.specs.declared.call.RootCall.{RootCall}
-use Rattle.plasma_tx.specs.Shown.{Tests, Rules, root_at}
-use Rattle.plasma_tx.specs.Accepted.{ShowsTx}
-use Rattle.plasma_tx.proofs.Each.{some_same}
+use Rattle.watch_duty.proofs.Words.{◌≡◌, ◌⊎◌, ℕ, zero, suc, ◌<◌, ◌≤◌, ◌==◌, true, false, if◌then◌else◌, List, [], ◌∷◌, map, Option, Some, None, inl, inr, refl, sym, ap, arith, option_map, option_map_or, AllByRecursion, AllPairs, cons_option, eqb-true, eq-eqb, ne_eqb, true≢false, common_steps, Owner, RawOpening, SignedTx, Link, RootCall, Tests, Rules, root_at, ShowsTx, some_same, tip_from, with_tx, next_link}
 use Rattle.coin_history.specs.History.{opens_block, transfer_of, links_in, AreLinked}
-use Rattle.coin_history.proofs.HistoryLinks.{tip_from, with_tx}
-use Rattle.watch_duty.specs.Duty.{next_link}
 use Rattle.watch_duty.proofs.Members.{Has}
 
 -- ---- rising links

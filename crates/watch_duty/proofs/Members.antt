@@ -1,9 +1,5 @@
 -- Lists: what is in one, and what is found in it.
-use Rattle.std.proofs.Common.{◌≡◌, ◌⊎◌, ℕ, zero, suc, ◌<◌, ◌≤◌, cond, ◌||◌, Bool, true, false, if◌then◌else◌, List, [], ◌∷◌, ◌++◌, length, get_or, map, filter, find, Some, None, inl, inr, refl, sym, ap, ◌∙◌, subst, arith}
-use Rattle.std.specs.List.{AllByRecursion, Contains, flat_map, list_any}
-use Rattle.std.proofs.lemmas.Bool.{or_left, or_right, true≢false}
-use Rattle.std.proofs.lemmas.Grind.{common_steps}
-use Rattle.plasma_tx.proofs.RuleNames.{one_if, count}
+use Rattle.watch_duty.proofs.Words.{◌≡◌, ◌⊎◌, ℕ, zero, suc, ◌<◌, ◌≤◌, cond, ◌||◌, Bool, true, false, if◌then◌else◌, List, [], ◌∷◌, ◌++◌, length, get_or, map, filter, find, Some, None, inl, inr, refl, sym, ap, ◌∙◌, subst, arith, AllByRecursion, Contains, flat_map, list_any, or_left, or_right, true≢false, common_steps, one_if, count}
 
 -- the list has the item
 abbrev pub Has : {X : Type 0} → List X → X → Type 0

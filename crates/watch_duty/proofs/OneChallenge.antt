@@ -1,18 +1,5 @@
 -- What is due is nothing without exits, and at most one challenge for an exit.
-use Rattle.std.proofs.Common.{◌≡◌, ℕ, ◌≤◌, cond, true, false, List, [], ◌∷◌, ◌++◌, length, filter, Option, Some, None, refl, ap, ◌∙◌, arith}
-use Rattle.std.specs.Prelude.{unwrap_or}
-use Rattle.std.specs.List.{flat_map}
-use Rattle.std.specs.Option.{option_map, option_or}
-use Rattle.std.proofs.lemmas.List.Elements.{filter-append}
-use Rattle.std.proofs.lemmas.Grind.{common_steps}
-use Rattle.plasma_tx.specs.declared.links.Link.{Link}
-use Rattle.plasma_tx.specs.declared.links.Links.{Links}
-use Rattle.plasma_tx.specs.declared.call.RootCall.{RootCall}
-use Rattle.plasma_tx.specs.declared.views.ChallengeView.{ChallengeView}
-use Rattle.plasma_tx.specs.declared.views.ExitView.{ExitView}
-use Rattle.plasma_tx.specs.declared.rules.TheConstants.{CHALLENGE_WINDOW}
-use Rattle.watch_duty.specs.Duty.{within, old_owner, second_spend, planted_parent, answer, answers, due_for}
-use Rattle.watch_duty.specs.Laws.{is_challenge, NothingIsDueWithoutExits, OneChallengeIsDue}
+use Rattle.watch_duty.proofs.Words.{◌≡◌, ℕ, ◌≤◌, cond, true, false, List, [], ◌∷◌, ◌++◌, length, filter, Option, Some, None, refl, ap, ◌∙◌, arith, unwrap_or, flat_map, option_map, option_or, filter-append, common_steps, Link, Links, RootCall, ChallengeView, ExitView, CHALLENGE_WINDOW, within, old_owner, second_spend, planted_parent, answer, answers, due_for, is_challenge, NothingIsDueWithoutExits, OneChallengeIsDue}
 
 pub nothing_is_due_without_exits : NothingIsDueWithoutExits
 nothing_is_due_without_exits log account guard none = ap (flat_map (due_for log account guard.links)) none

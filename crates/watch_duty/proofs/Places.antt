@@ -1,23 +1,5 @@
 -- What is due, by the places of a guard's blocks.
-use Rattle.std.proofs.Common.{◌≡◌, ℕ, suc, ◌==◌, ◌&&◌, not, cond, Bool, if◌then◌else◌, List, [], ◌∷◌, map, Option, Some, None, refl, sym, ap, ◌∙◌, arith}
-use Rattle.std.specs.Prelude.{is_some, nat_lt, slice_get, unwrap_or}
-use Rattle.std.specs.List.{flat_map, position}
-use Rattle.std.specs.Option.{option_map, option_or, option_and_then}
-use Rattle.std.proofs.lemmas.Bool.{cases_lt, lt-ltb, le-ltb}
-use Rattle.std.proofs.lemmas.Grind.{common_steps}
-use Rattle.plasma_tx.specs.declared.links.Link.{Link}
-use Rattle.plasma_tx.specs.declared.links.Links.{Links}
-use Rattle.plasma_tx.specs.declared.call.RootCall.{RootCall}
-use Rattle.plasma_tx.specs.declared.call.RootCall.TheVariants.{After, Between, Before, Respond}
-use Rattle.plasma_tx.specs.declared.views.ChallengeView.{ChallengeView}
-use Rattle.plasma_tx.specs.declared.views.ExitView.{ExitView}
-use Rattle.plasma_tx.specs.ChallengeLists.{is_challenged}
-use Rattle.plasma_tx.specs.Links.{tip_of}
-use Rattle.plasma_tx.specs.Views.{exits_of}
-use Rattle.plasma_tx.specs.declared.rules.TheConstants.{CHALLENGE_WINDOW, RESPONSE_WINDOW}
-use Rattle.watch_duty.specs.declared.guard.Guard.{Guard}
-use Rattle.watch_duty.specs.Duty.{next_link, link_after, tip_shown, within, due_for, due_of, due_calls}
-use Rattle.watch_duty.specs.Laws.{link_by_place, by_link, response_by_place, due_by_place, LinksAreByPlace, DueCallsAreByPlace}
+use Rattle.watch_duty.proofs.Words.{◌≡◌, ℕ, suc, ◌==◌, ◌&&◌, not, cond, Bool, if◌then◌else◌, List, [], ◌∷◌, map, Option, Some, None, refl, sym, ap, ◌∙◌, arith, is_some, nat_lt, slice_get, unwrap_or, flat_map, position, option_map, option_or, option_and_then, cases_lt, lt-ltb, le-ltb, common_steps, Link, Links, RootCall, After, Between, Before, Respond, ChallengeView, ExitView, is_challenged, tip_of, exits_of, CHALLENGE_WINDOW, RESPONSE_WINDOW, Guard, next_link, link_after, tip_shown, within, due_for, due_of, due_calls, link_by_place, by_link, response_by_place, due_by_place, LinksAreByPlace, DueCallsAreByPlace}
 
 -- ---- links
 

@@ -1,30 +1,11 @@
 -- What the standing exits of a legal log were shown by: each was started, and each challenge of it was made, with
 -- openings in calls of the log.
-use Rattle.std.proofs.Common.{◌≡◌, ℕ, ◌<◌, ◌==◌, Bool, true, false, if◌then◌else◌, List, [], ◌∷◌, ◌++◌, map, Option, Some, None, inl, inr, refl, sym, ap, ◌∙◌, subst, arith, find}
-use Rattle.std.specs.Prelude.{is_some}
-use Rattle.std.specs.Option.{option_map}
-use Rattle.std.specs.List.{AllByRecursion, flat_map}
-use Rattle.std.proofs.lemmas.Bool.{and_parts, eqb-true, eq-eqb, ltb-true}
-use Rattle.std.proofs.lemmas.Grind.{common_steps}
-use Rattle.plasma_tx.specs.declared.owner.Owner.{Owner}
-use Rattle.plasma_tx.specs.declared.opening.RawOpening.{RawOpening}
-use Rattle.plasma_tx.specs.declared.signed_tx.SignedTx.{SignedTx}
+use Rattle.watch_duty.proofs.Words.{◌≡◌, ℕ, ◌<◌, ◌==◌, Bool, true, false, if◌then◌else◌, List, [], ◌∷◌, ◌++◌, map, Option, Some, None, inl, inr, refl, sym, ap, ◌∙◌, subst, arith, find, is_some, option_map, AllByRecursion, flat_map, and_parts, eqb-true, eq-eqb, ltb-true, common_steps, Owner, RawOpening, SignedTx, AtDeposit, Spend, RootCall, StartDeposit, StartSpend, Before, Respond, CoinView, Challenge, Exit, coin_at, block_of, owner_of, owner_of_coin, owner_of_opening, is_exit, deposit_exit, spend_exit, exits, exit_at, with_exit_changed, with_answer_at, with_challenge, new_challenge, challenge_at, Tests, Rules, shown_tx, shown_owner, is_before_parent, is_parent_of, ShowsTx, StartsDeposit, StartsSpend, Challenges, some_same, all-append, all-map, all-weaker, each-exit, exits-distinct, IsLegalBy, shown_openings, openings_of_call}
 use Rattle.plasma_tx.specs.declared.call.Shown.{Shown}
-use Rattle.plasma_tx.specs.declared.call.Shown.TheVariants.{Deposit as AtDeposit, Spend}
-use Rattle.plasma_tx.specs.declared.call.RootCall.{RootCall}
-use Rattle.plasma_tx.specs.declared.call.RootCall.TheVariants.{StartDeposit, StartSpend, Before, Respond}
-use Rattle.plasma_tx.specs.declared.views.CoinView.{CoinView}
 use Rattle.plasma_tx.specs.Openings.{leaf_in}
-use Rattle.plasma_tx.specs.Views.{Challenge, Exit, coin_at, block_of, owner_of, owner_of_coin, owner_of_opening, is_exit, deposit_exit, spend_exit, exits, exit_at, with_exit_changed, with_answer_at, with_challenge, new_challenge, challenge_at}
 use Rattle.plasma_tx.proofs.Leaves.{recipient-named}
-use Rattle.plasma_tx.specs.Shown.{Tests, Rules, shown_tx, shown_owner}
-use Rattle.plasma_tx.specs.Table.{is_before_parent, is_parent_of}
-use Rattle.plasma_tx.specs.Accepted.{ShowsTx, StartsDeposit, StartsSpend, Challenges}
 use Rattle.plasma_tx.proofs.Accepted.{openings_show, accepted_calls_show}
-use Rattle.plasma_tx.proofs.Each.{some_same, all-append, all-map, all-weaker, each-exit}
-use Rattle.plasma_tx.proofs.RuleNames.{exits-distinct}
 use Rattle.coin_history.proofs.HistoryGrow.{root_at-grown, committed-le, coin_at-grown}
-use Rattle.watch_duty.specs.Laws.{IsLegalBy, shown_openings, openings_of_call}
 use Rattle.watch_duty.proofs.Members.{Has, has-left, has-right, only-found}
 
 -- the openings of the log's calls of a coin

@@ -1,10 +1,5 @@
-use Rattle.std.proofs.Common.{◌≡◌, ℕ, ◌+◌, ◌<◌, List, [], ◌++◌, length, get_or, take, sym, ap, ◌∙◌}
-use Rattle.std.specs.List.{flat_map}
+use Rattle.watch_duty.proofs.Words.{◌≡◌, ℕ, ◌+◌, ◌<◌, List, [], ◌++◌, length, get_or, take, sym, ap, ◌∙◌, flat_map, Link, RootCall, Guard, guard_of, due_of, due_calls}
 use Rattle.std.proofs.lemmas.List.{flat_map_more, take_more}
-use Rattle.plasma_tx.specs.declared.links.Link.{Link}
-use Rattle.plasma_tx.specs.declared.call.RootCall.{RootCall}
-use Rattle.watch_duty.specs.declared.guard.Guard.{Guard}
-use Rattle.watch_duty.specs.Duty.{guard_of, due_of, due_calls}
 use Rattle.watch_duty.proofs.due.duty.Goals as goal
 
 -- one more guard

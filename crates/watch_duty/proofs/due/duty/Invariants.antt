@@ -1,5 +1,4 @@
-use Rattle.std.proofs.Common.{◌≡◌, take}
-use Rattle.watch_duty.specs.Duty.{due_calls}
+use Rattle.watch_duty.proofs.Words.{◌≡◌, take, due_calls}
 use Rattle.watch_duty.proofs.due.duty.Given as goal
 
 abbrev pub invariant-loop-guard : goal.invariant-loop-guard

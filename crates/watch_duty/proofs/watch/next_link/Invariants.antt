@@ -1,5 +1,4 @@
-use Rattle.std.proofs.Common.{◌≡◌, drop}
-use Rattle.watch_duty.specs.Duty.{next_link}
+use Rattle.watch_duty.proofs.Words.{◌≡◌, drop, next_link}
 use Rattle.watch_duty.proofs.watch.next_link.Given as goal
 
 abbrev pub invariant-loop-link : goal.invariant-loop-link

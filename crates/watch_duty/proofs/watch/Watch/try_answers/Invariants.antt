@@ -1,7 +1,4 @@
-use Rattle.std.proofs.Common.{◌≡◌, ◌++◌, take}
-use Rattle.std.specs.List.{flat_map}
-use Rattle.watch_duty.specs.Duty.{answer}
-use Rattle.watch_duty.specs.Watches.{log_of, links_of}
+use Rattle.watch_duty.proofs.Words.{◌≡◌, ◌++◌, take, flat_map, answer, log_of, links_of}
 use Rattle.watch_duty.proofs.watch.Watch.try_answers.Given as goal
 
 abbrev pub invariant-loop-challenge : goal.invariant-loop-challenge
