@@ -1,48 +1,12 @@
 -- Each call that is advised for the history of a coin is accepted.
-use Rattle.std.proofs.Common.{◌≡◌, ℕ, ◌+◌, ◌<◌, ◌≤◌, ◌==◌, ◌&&◌, ◌||◌, true, false, if◌then◌else◌, List, [], ◌∷◌, ◌++◌, map, filter, Some, None, inl, inr, refl, sym, ap, ◌∙◌, subst, arith}
-use Rattle.std.specs.Prelude.{is_some, nat_lt}
-use Rattle.std.specs.List.{Contains, flat_map}
-use Rattle.std.specs.Option.{option_and_then, option_map, option_map_or}
-use Rattle.std.proofs.lemmas.Bool.{and_parts, and_from, eqb-true, eq-eqb, lt-ltb, ltb-true, ltb-false, leb-true}
-use Rattle.plasma_tx.specs.declared.owner.Owner.{Owner}
-use Rattle.plasma_tx.specs.declared.opening.RawOpening.{RawOpening}
-use Rattle.plasma_tx.specs.declared.signed_tx.SignedTx.{SignedTx}
-use Rattle.plasma_tx.specs.declared.links.Links.{Links}
-use Rattle.plasma_tx.specs.declared.call.Shown.{Shown}
-use Rattle.plasma_tx.specs.declared.call.Shown.TheVariants.{Spend}
-use Rattle.plasma_tx.specs.declared.call.RootCall.{RootCall}
-use Rattle.plasma_tx.specs.declared.call.RootCall.TheVariants.{Fund, Tick, Deposit, Commit, StartDeposit, StartSpend, After, Between, Before, Respond, Finish}
-use Rattle.plasma_tx.specs.declared.views.ChallengeView.{ChallengeView}
-use Rattle.plasma_tx.specs.declared.views.CoinView.{CoinView}
-use Rattle.plasma_tx.specs.declared.views.ExitView.{ExitView}
-use Rattle.plasma_tx.specs.declared.rules.TheConstants.{CHALLENGE_BOND, CHALLENGE_WINDOW, EXIT_PERIOD}
-use Rattle.plasma_tx.specs.ChallengeLists.{is_challenged}
-use Rattle.plasma_tx.specs.Accepted.{ShowsTx, StartsSpend, CancelsBetween}
+use Rattle.coin_safety.proofs.Words.{◌≡◌, ℕ, ◌+◌, ◌<◌, ◌≤◌, ◌==◌, ◌&&◌, ◌||◌, true, false, if◌then◌else◌, List, [], ◌∷◌, ◌++◌, map, filter, Some, None, inl, inr, refl, sym, ap, ◌∙◌, subst, arith, is_some, nat_lt, Contains, flat_map, option_and_then, option_map, option_map_or, and_parts, and_from, eqb-true, eq-eqb, lt-ltb, ltb-true, ltb-false, leb-true, Owner, RawOpening, SignedTx, Links, Shown, Spend, RootCall, Fund, Tick, Deposit, Commit, StartDeposit, StartSpend, After, Between, Before, Respond, Finish, ChallengeView, CoinView, ExitView, CHALLENGE_BOND, CHALLENGE_WINDOW, EXIT_PERIOD, is_challenged, ShowsTx, StartsSpend, CancelsBetween, tip_of, balance_of, Tests, Rules, root_at, answer_to, is_accepted, is_before_parent, is_over, now, coin_at, Exit, is_exit, exits, exit_at, exits_of, exit_view, challenge_view, deposit_exit, spend_exit, accepted_calls_show, owners_are_read, transfers_are_shown, shown_calls_are_accepted, some_same, Bundle, IsHistory, root_at-grown, committed-le, due_for, due_of, IsLegalBy, HaveOneLeaf, openings_of_call, is_poor_before, Has, has-contains, contains-has, has-left, has-cases, has-map, has-filter, has-flat_map, all-has, only-found, none-found, any-map, seen, IsShownAt, Deposited, Transferred, IsBegun, OfDeposit, OfSpend, IsShownExit, exits-shown, Kept, standing, exit_in, start_shown, lowest, earlier_spend, instead, is_to_finish, has_challenged, is_own, own_start, finishes, due, shown_again, timed, calls_of, tip, is_poor, ActsAreAccepted}
 use Rattle.plasma_tx.specs.Laws.{last_start, without_challenges}
-use Rattle.plasma_tx.specs.Links.{tip_of}
-use Rattle.plasma_tx.specs.Money.{balance_of}
 use Rattle.plasma_tx.specs.Openings.{leaf_in}
-use Rattle.plasma_tx.specs.Shown.{Tests, Rules, root_at}
-use Rattle.plasma_tx.specs.Table.{answer_to, is_accepted, is_before_parent, is_over}
 use Rattle.plasma_tx.specs.Transfer.{transfer_in}
-use Rattle.plasma_tx.specs.Views.{now, coin_at, Exit, is_exit, exits, exit_at, exits_of, exit_view, challenge_view, deposit_exit, spend_exit}
-use Rattle.plasma_tx.proofs.Accepted.{accepted_calls_show, owners_are_read}
-use Rattle.plasma_tx.proofs.Acceptance.{transfers_are_shown, shown_calls_are_accepted}
-use Rattle.plasma_tx.proofs.Names.{some_same}
 use Rattle.plasma_tx.proofs.RuleNames.{exits-distinct, is_at}
 use Rattle.plasma_tx.proofs.Stands.{exits_stand}
-use Rattle.coin_history.specs.declared.bundle.Bundle.{Bundle}
-use Rattle.coin_history.specs.History.{IsHistory}
-use Rattle.coin_history.proofs.HistoryGrow.{root_at-grown, committed-le}
-use Rattle.watch_duty.specs.Duty.{due_for, due_of}
-use Rattle.watch_duty.specs.Laws.{IsLegalBy, HaveOneLeaf, openings_of_call, is_poor_before}
 use Rattle.watch_duty.proofs.Accepts.{due_calls_are_accepted}
 use Rattle.watch_duty.proofs.Dues.{IsDue, DueAfter, DueBetween, DueBefore, DueRespond, due_for-due}
-use Rattle.watch_duty.proofs.Members.{Has, has-contains, contains-has, has-left, has-cases, has-map, has-filter, has-flat_map, all-has, only-found, none-found, any-map}
-use Rattle.watch_duty.proofs.Shown.{seen, IsShownAt, Deposited, Transferred, IsBegun, OfDeposit, OfSpend, IsShownExit, exits-shown}
-use Rattle.coin_safety.specs.declared.kept.Kept.{Kept}
-use Rattle.coin_safety.specs.Advice.{standing, exit_in, start_shown, lowest, earlier_spend, instead, is_to_finish, has_challenged, is_own, own_start, finishes, due, shown_again, timed, calls_of, tip}
-use Rattle.coin_safety.specs.Laws.{is_poor, ActsAreAccepted}
 use Rattle.coin_safety.proofs.Blocks.{deposit-low, view-exit}
 use Rattle.coin_safety.proofs.Again.{IsAgain, again-in, answer-shows}
 use Rattle.coin_safety.proofs.Starting.{own-accepted}

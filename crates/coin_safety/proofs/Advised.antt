@@ -1,22 +1,5 @@
 -- No call that is due is left out, and who has what calls take together has what each takes.
-use Rattle.std.proofs.Common.{◌≡◌, ℕ, ◌+◌, ◌≤◌, ◌==◌, true, false, if◌then◌else◌, List, [], ◌∷◌, ◌++◌, map, Option, Some, None, inl, inr, refl, sym, ap, subst, arith}
-use Rattle.std.specs.Prelude.{is_some}
-use Rattle.std.specs.List.{sum_by, fold}
-use Rattle.std.specs.Option.{option_and_then, option_map_or}
-use Rattle.std.proofs.lemmas.Bool.{eq-eqb, and_from, le-ltb}
-use Rattle.plasma_tx.specs.declared.opening.RawOpening.{RawOpening}
-use Rattle.plasma_tx.specs.declared.call.Shown.{Shown}
-use Rattle.plasma_tx.specs.declared.call.RootCall.{RootCall}
-use Rattle.plasma_tx.specs.declared.call.RootCall.TheVariants.{Fund, Tick, Deposit, Commit, StartDeposit, StartSpend, After, Between, Before, Respond, Finish}
-use Rattle.plasma_tx.specs.declared.rules.TheConstants.{CHALLENGE_BOND, EXIT_BOND}
-use Rattle.plasma_tx.specs.Money.{balance_of, share_of, takes as taken}
-use Rattle.plasma_tx.specs.Views.{exits_of}
-use Rattle.watch_duty.specs.Duty.{due_of}
-use Rattle.watch_duty.proofs.Members.{Has, has-contains, contains-has, has-left}
-use Rattle.coin_safety.specs.declared.kept.Kept.{Kept}
-use Rattle.coin_safety.specs.declared.kept.Sent.{Sent}
-use Rattle.coin_safety.specs.Advice.{exit_in, earlier_spend, instead, finishes, due, shown_again, timed, own_start, calls_of, takes}
-use Rattle.coin_safety.specs.Laws.{IsMet, NothingDueIsLeftOut, with_calls, EnoughIsEnough, NoneIsPoor}
+use Rattle.coin_safety.proofs.Words.{◌≡◌, ℕ, ◌+◌, ◌≤◌, ◌==◌, true, false, if◌then◌else◌, List, [], ◌∷◌, ◌++◌, map, Option, Some, None, inl, inr, refl, sym, ap, subst, arith, is_some, sum_by, fold, option_and_then, option_map_or, eq-eqb, and_from, le-ltb, RawOpening, Shown, RootCall, Fund, Tick, Deposit, Commit, StartDeposit, StartSpend, After, Between, Before, Respond, Finish, CHALLENGE_BOND, EXIT_BOND, balance_of, share_of, taken, exits_of, due_of, Has, has-contains, contains-has, has-left, Kept, Sent, exit_in, earlier_spend, instead, finishes, due, shown_again, timed, own_start, calls_of, takes, IsMet, NothingDueIsLeftOut, with_calls, EnoughIsEnough, NoneIsPoor}
 
 -- ---- what is due
 

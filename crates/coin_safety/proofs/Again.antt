@@ -1,29 +1,5 @@
 -- The spends that answers showed, and the calls that show them again.
-use Rattle.std.proofs.Common.{◌≡◌, ℕ, ◌+◌, ◌<◌, ◌==◌, ◌&&◌, ◌||◌, not, Bool, true, false, if◌then◌else◌, List, [], ◌∷◌, ◌++◌, Option, Some, None, inl, inr, refl, ap, ◌∙◌, subst, arith}
-use Rattle.std.specs.Prelude.{is_some, nat_lt}
-use Rattle.std.specs.List.{flat_map, list_any}
-use Rattle.std.specs.Option.{option_map_or, option_or}
-use Rattle.std.proofs.lemmas.Bool.{and_parts, eqb-true, leb-false, ltb-true, not-true, true≢false}
-use Rattle.plasma_tx.specs.declared.opening.RawOpening.{RawOpening}
-use Rattle.plasma_tx.specs.declared.signed_tx.SignedTx.{SignedTx}
-use Rattle.plasma_tx.specs.declared.call.Shown.TheVariants.{Spend}
-use Rattle.plasma_tx.specs.declared.call.RootCall.{RootCall}
-use Rattle.plasma_tx.specs.declared.call.RootCall.TheVariants.{Before, Respond}
-use Rattle.plasma_tx.specs.declared.views.ExitView.{ExitView}
-use Rattle.plasma_tx.specs.declared.rules.TheConstants.{CHALLENGE_WINDOW}
-use Rattle.plasma_tx.specs.ChallengeLists.{is_challenged}
-use Rattle.plasma_tx.specs.Accepted.{ShowsTx, Responds}
-use Rattle.plasma_tx.specs.Shown.{Tests, Rules}
-use Rattle.plasma_tx.specs.Table.{is_over}
-use Rattle.plasma_tx.specs.Views.{now}
-use Rattle.plasma_tx.proofs.Accepted.{accepted_calls_show}
-use Rattle.plasma_tx.proofs.Names.{some_same, challenge-at}
-use Rattle.coin_history.proofs.HistoryGrow.{root_at-grown, committed-le}
-use Rattle.watch_duty.specs.Duty.{within}
-use Rattle.watch_duty.specs.Laws.{IsLegalBy}
-use Rattle.watch_duty.proofs.Members.{Has, has-flat_map}
-use Rattle.coin_safety.specs.declared.kept.Kept.{Kept}
-use Rattle.coin_safety.specs.Advice.{standing, tip, answer_shown, is_answered, before_by, again_for, shown_again}
+use Rattle.coin_safety.proofs.Words.{◌≡◌, ℕ, ◌+◌, ◌<◌, ◌==◌, ◌&&◌, ◌||◌, not, Bool, true, false, if◌then◌else◌, List, [], ◌∷◌, ◌++◌, Option, Some, None, inl, inr, refl, ap, ◌∙◌, subst, arith, is_some, nat_lt, flat_map, list_any, option_map_or, option_or, and_parts, eqb-true, leb-false, ltb-true, not-true, true≢false, RawOpening, SignedTx, Spend, RootCall, Before, Respond, ExitView, CHALLENGE_WINDOW, is_challenged, ShowsTx, Responds, Tests, Rules, is_over, now, accepted_calls_show, some_same, challenge-at, root_at-grown, committed-le, within, IsLegalBy, Has, has-flat_map, Kept, standing, tip, answer_shown, is_answered, before_by, again_for, shown_again}
 
 -- ---- which they are
 

@@ -1,17 +1,5 @@
 -- The map of the answers to a coin's challenges at one block, as its loop fills it.
-use Rattle.std.proofs.Common.{◌≡◌, ◌<◌, ℕ, ◌+◌, ◌==◌, ◌&&◌, cond, true, false, if◌then◌else◌, List, [], ◌∷◌, length, take, get_or, reverse, Option, Some, None, refl, sym, ap, ◌∙◌}
-use Rattle.std.specs.Prelude.{is_some, slice_get}
-use Rattle.std.specs.Option.{option_and_then, option_map, option_or}
-use Rattle.std.specs.Ordering.{nat_cmp}
-use Rattle.std.specs.BTreeMap.{is_at}
-use Rattle.std.proofs.lemmas.Bool.{true≢false}
-use Rattle.std.proofs.lemmas.Option.{slice_get-get_or}
-use Rattle.plasma_tx.specs.declared.opening.RawOpening.{RawOpening}
-use Rattle.plasma_tx.specs.declared.call.RootCall.{RootCall}
-use Rattle.plasma_tx.specs.declared.call.RootCall.TheVariants.{Fund, Tick, Deposit, Commit, StartDeposit, StartSpend, After, Between, Before, Respond, Finish}
-use Rattle.plasma_tx.proofs.Names.{some_same, eqb-flip}
-use Rattle.plasma_tx.proofs.States.{is_at-nat}
-use Rattle.coin_safety.specs.Advice.{answer_in, answer_shown, left_in, left_by}
+use Rattle.coin_safety.proofs.Words.{◌≡◌, ◌<◌, ℕ, ◌+◌, ◌==◌, ◌&&◌, cond, true, false, if◌then◌else◌, List, [], ◌∷◌, length, take, get_or, reverse, Option, Some, None, refl, sym, ap, ◌∙◌, is_some, slice_get, option_and_then, option_map, option_or, nat_cmp, is_at, true≢false, slice_get-get_or, RawOpening, RootCall, Fund, Tick, Deposit, Commit, StartDeposit, StartSpend, After, Between, Before, Respond, Finish, some_same, eqb-flip, is_at-nat, answer_in, answer_shown, left_in, left_by}
 use Rattle.coin_safety.specs.Answered.{answered_exit}
 use Rattle.coin_safety.proofs.Lists.{log-more}
 

@@ -1,30 +1,6 @@
 -- Where the blocks of a history lie, and those of standing exits.
-use Rattle.std.proofs.Common.{◌≡◌, ℕ, zero, suc, ◌-◌, ◌<◌, ◌≤◌, ◌==◌, true, List, [], ◌∷◌, length, map, filter, Option, Some, None, inl, inr, refl, sym, ap, ◌∙◌, subst, arith}
-use Rattle.std.specs.Prelude.{slice_get}
-use Rattle.std.specs.List.{AllPairs}
-use Rattle.std.specs.Option.{option_map_or}
-use Rattle.std.proofs.lemmas.Bool.{eqb-true}
-use Rattle.std.proofs.lemmas.List.Elements.{recursion_from_All}
-use Rattle.plasma_tx.specs.declared.owner.Owner.{Owner}
-use Rattle.plasma_tx.specs.declared.opening.RawOpening.{RawOpening}
-use Rattle.plasma_tx.specs.declared.links.Link.{Link}
-use Rattle.plasma_tx.specs.declared.links.Links.{Links}
-use Rattle.plasma_tx.specs.declared.call.RootCall.{RootCall}
-use Rattle.plasma_tx.specs.declared.views.CoinView.{CoinView}
-use Rattle.plasma_tx.specs.declared.views.ExitView.{ExitView}
-use Rattle.plasma_tx.specs.Links.{last_spend, tip_of}
-use Rattle.plasma_tx.specs.Shown.{Tests, Rules}
-use Rattle.plasma_tx.specs.Views.{Exit, exits, exits_of, exit_view}
-use Rattle.plasma_tx.proofs.Names.{some_same}
-use Rattle.coin_history.specs.declared.bundle.Bundle.{Bundle}
-use Rattle.coin_history.specs.History.{opens_block, links_in, links_of, AreLinked, IsHistory}
-use Rattle.coin_history.proofs.HistoryLinks.{tip_from, tip-is}
+use Rattle.coin_safety.proofs.Words.{◌≡◌, ℕ, zero, suc, ◌-◌, ◌<◌, ◌≤◌, ◌==◌, true, List, [], ◌∷◌, length, map, filter, Option, Some, None, inl, inr, refl, sym, ap, ◌∙◌, subst, arith, slice_get, AllPairs, option_map_or, eqb-true, recursion_from_All, Owner, RawOpening, Link, Links, RootCall, CoinView, ExitView, last_spend, tip_of, Tests, Rules, Exit, exits, exits_of, exit_view, some_same, Bundle, opens_block, links_in, links_of, AreLinked, IsHistory, tip_from, tip-is, link_after, IsLegalBy, Rises, rises-from, has-above, has-tip, tip-link, links-opened, follows, Has, has-map, has-filter, all-has, seen, IsBegun, OfDeposit, OfSpend, IsShownExit, exits-shown}
 use Rattle.coin_history.proofs.HistoryShape.{links_rise}
-use Rattle.watch_duty.specs.Duty.{link_after}
-use Rattle.watch_duty.specs.Laws.{IsLegalBy}
-use Rattle.watch_duty.proofs.GuardLinks.{Rises, rises-from, has-above, has-tip, tip-link, links-opened, follows}
-use Rattle.watch_duty.proofs.Members.{Has, has-map, has-filter, all-has}
-use Rattle.watch_duty.proofs.Shown.{seen, IsBegun, OfDeposit, OfSpend, IsShownExit, exits-shown}
 
 -- what is at a place of a list is in it
 pub got-has : (xs : List Link) (i : ℕ) (link : Link) → slice_get xs i ≡ Some link → Has xs link

@@ -1,16 +1,5 @@
 -- The ends of windows, as loops find the first of them.
-use Rattle.std.proofs.Common.{◌≡◌, ◌<◌, ℕ, ◌+◌, min, cond, not, true, false, if◌then◌else◌, List, [], ◌∷◌, ◌++◌, length, map, filter, take, get_or, Option, Some, refl, sym, ap, ◌∙◌}
-use Rattle.std.specs.List.{flat_map}
-use Rattle.std.specs.Option.{option_map_or, option_to_list}
-use Rattle.std.proofs.lemmas.Bool.{ne_eqb}
-use Rattle.std.proofs.lemmas.List.{append_assoc, map_more, map-append}
-use Rattle.std.proofs.lemmas.List.Elements.{filter_more}
-use Rattle.plasma_tx.specs.declared.views.ChallengeView.{ChallengeView}
-use Rattle.plasma_tx.specs.declared.views.ExitView.{ExitView}
-use Rattle.plasma_tx.specs.declared.rules.TheConstants.{CHALLENGE_WINDOW, RESPONSE_WINDOW}
-use Rattle.plasma_tx.specs.ChallengeLists.{is_challenged}
-use Rattle.coin_safety.specs.Numbers.{later, least}
-use Rattle.coin_safety.specs.Words.{answer_ends, ends_of}
+use Rattle.coin_safety.proofs.Words.{◌≡◌, ◌<◌, ℕ, ◌+◌, min, cond, not, true, false, if◌then◌else◌, List, [], ◌∷◌, ◌++◌, length, map, filter, take, get_or, Option, Some, refl, sym, ap, ◌∙◌, flat_map, option_map_or, option_to_list, ne_eqb, append_assoc, map_more, map-append, filter_more, ChallengeView, ExitView, CHALLENGE_WINDOW, RESPONSE_WINDOW, is_challenged, later, least, answer_ends, ends_of}
 use Rattle.coin_safety.proofs.Numbers.{least-join, least-push, least-next, least-same}
 use Rattle.coin_safety.proofs.Lists.{flat-more}
 

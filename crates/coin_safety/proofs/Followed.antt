@@ -1,15 +1,7 @@
 -- A lean log says of the exits what the log says beside which it is followed.
-use Rattle.std.proofs.Common.{◌≡◌, ℕ, ◌+◌, ◌==◌, true, false, if◌then◌else◌, List, [], ◌∷◌, Some, refl, sym, ap, ◌∙◌, subst}
-use Rattle.std.proofs.lemmas.Bool.{eqb-true, true≢false}
-use Rattle.plasma_tx.specs.declared.call.RootCall.{RootCall}
-use Rattle.plasma_tx.specs.declared.call.RootCall.TheVariants.{Fund, Tick, Deposit, Commit, StartDeposit, StartSpend, After, Between, Before, Respond, Finish}
+use Rattle.coin_safety.proofs.Words.{◌≡◌, ℕ, ◌+◌, ◌==◌, true, false, if◌then◌else◌, List, [], ◌∷◌, Some, refl, sym, ap, ◌∙◌, subst, eqb-true, true≢false, RootCall, Fund, Tick, Deposit, Commit, StartDeposit, StartSpend, After, Between, Before, Respond, Finish, Standing, new_exit, standing_after, change_of, standing_of, now, blocks, coins, coin_at, exits, exits_of, responses, is_withdrawn, block_of, after-change, eqb-flip, lean, concerns, Follows, FollowsAll}
 use Rattle.plasma_tx.specs.declared.standing.Change.{Change}
 use Rattle.plasma_tx.specs.declared.standing.Change.TheVariants.{Start, Cancel, Challenge, Respond as Answer, Finish as End}
-use Rattle.plasma_tx.specs.Standing.{Standing, new_exit, standing_after, change_of, standing_of}
-use Rattle.plasma_tx.specs.Views.{now, blocks, coins, coin_at, exits, exits_of, responses, is_withdrawn, block_of}
-use Rattle.plasma_tx.proofs.CoinExits.{after-change}
-use Rattle.plasma_tx.proofs.Names.{eqb-flip}
-use Rattle.coin_safety.specs.Lean.{lean, concerns, Follows, FollowsAll}
 
 change-lean : (time : ℕ) (call : RootCall) → change_of time (lean call) ≡ change_of time call
 change-lean time (Fund account amount) = refl

@@ -1,12 +1,5 @@
 -- What is found in lists, and the least of some numbers.
-use Rattle.std.proofs.Common.{◌≡◌, ◌⊎◌, ℕ, ◌≤◌, ◌||◌, min, Bool, true, false, if◌then◌else◌, List, [], ◌∷◌, ◌++◌, find, Some, None, inl, inr, refl, sym, ap, ◌∙◌, subst, arith}
-use Rattle.std.specs.Prelude.{nat_le}
-use Rattle.std.specs.List.{flat_map, list_any}
-use Rattle.std.specs.Option.{option_map_or}
-use Rattle.std.proofs.lemmas.Bool.{leb-true, leb-false, true≢false}
-use Rattle.plasma_tx.proofs.Names.{some_same}
-use Rattle.watch_duty.proofs.Members.{Has}
-use Rattle.coin_safety.specs.Numbers.{least}
+use Rattle.coin_safety.proofs.Words.{◌≡◌, ◌⊎◌, ℕ, ◌≤◌, ◌||◌, min, Bool, true, false, if◌then◌else◌, List, [], ◌∷◌, ◌++◌, find, Some, None, inl, inr, refl, sym, ap, ◌∙◌, subst, arith, nat_le, flat_map, list_any, option_map_or, leb-true, leb-false, true≢false, some_same, Has, least}
 
 -- ---- lists
 

@@ -1,22 +1,5 @@
 -- Maps of a coin's exits, as loops fill them.
-use Rattle.std.proofs.Common.{◌≡◌, ◌<◌, ℕ, suc, ◌+◌, ◌-◌, ◌==◌, ◌&&◌, min, cond, true, false, if◌then◌else◌, List, [], ◌∷◌, ◌++◌, length, map, filter, take, drop, get_or, reverse, Option, Some, None, inl, inr, refl, sym, ap, ◌∙◌, subst, arith, drop-cons}
-use Rattle.std.specs.Prelude.{slice_get}
-use Rattle.std.specs.Option.{option_and_then, option_map_or}
-use Rattle.std.specs.Ordering.{nat_cmp}
-use Rattle.std.specs.BTreeMap.{is_at}
-use Rattle.std.proofs.lemmas.Bool.{cases_eq, eq-eqb, ne_eqb}
-use Rattle.std.proofs.lemmas.List.{map-append}
-use Rattle.std.proofs.lemmas.List.Elements.{filter_more}
-use Rattle.std.proofs.lemmas.Option.{slice_get-get_or}
-use Rattle.plasma_tx.specs.declared.opening.RawOpening.{RawOpening}
-use Rattle.plasma_tx.specs.declared.call.RootCall.{RootCall}
-use Rattle.plasma_tx.specs.declared.call.RootCall.TheVariants.{Fund, Tick, Deposit, Commit, StartDeposit, StartSpend, After, Between, Before, Respond, Finish}
-use Rattle.plasma_tx.specs.declared.views.ExitView.{ExitView}
-use Rattle.plasma_tx.proofs.Names.{eqb-flip}
-use Rattle.plasma_tx.proofs.States.{is_at-nat}
-use Rattle.coin_safety.specs.Numbers.{least}
-use Rattle.coin_safety.specs.Advice.{exit_in, lowest, start_shown}
-use Rattle.coin_safety.specs.Index.{spend_in}
+use Rattle.coin_safety.proofs.Words.{◌≡◌, ◌<◌, ℕ, suc, ◌+◌, ◌-◌, ◌==◌, ◌&&◌, min, cond, true, false, if◌then◌else◌, List, [], ◌∷◌, ◌++◌, length, map, filter, take, drop, get_or, reverse, Option, Some, None, inl, inr, refl, sym, ap, ◌∙◌, subst, arith, drop-cons, slice_get, option_and_then, option_map_or, nat_cmp, is_at, cases_eq, eq-eqb, ne_eqb, map-append, filter_more, slice_get-get_or, RawOpening, RootCall, Fund, Tick, Deposit, Commit, StartDeposit, StartSpend, After, Between, Before, Respond, Finish, ExitView, eqb-flip, is_at-nat, least, exit_in, lowest, start_shown, spend_in}
 use Rattle.coin_safety.proofs.Lists.{reversed-more}
 use Rattle.coin_safety.proofs.Numbers.{least-push}
 

@@ -1,7 +1,5 @@
 -- Steps of loops over lists.
-use Rattle.std.proofs.Common.{◌≡◌, ℕ, zero, suc, ◌+◌, ◌<◌, ◌≤◌, List, [], ◌∷◌, ◌++◌, length, map, take, drop, get_or, reverse, slice_set, slice_index_or, refl, sym, ap, ◌∙◌, arith}
-use Rattle.std.specs.List.{flat_map}
-use Rattle.std.proofs.lemmas.List.{flat_map_more, take_more, reverse-append, reverse-reverse, length-reverse, length-take-le}
+use Rattle.coin_safety.proofs.Words.{◌≡◌, ℕ, zero, suc, ◌+◌, ◌<◌, ◌≤◌, List, [], ◌∷◌, ◌++◌, length, map, take, drop, get_or, reverse, slice_set, slice_index_or, refl, sym, ap, ◌∙◌, arith, flat_map, flat_map_more, take_more, reverse-append, reverse-reverse, length-reverse, length-take-le}
 
 -- one more element, with the newest first
 pub reversed-more : {X : Type 0} (xs : List X) (i : ℕ) (d : X) → i < length xs

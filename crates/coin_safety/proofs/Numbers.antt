@@ -1,7 +1,5 @@
 -- The least of some numbers, as loops find it.
-use Rattle.std.proofs.Common.{◌≡◌, ℕ, min, List, [], ◌∷◌, ◌++◌, length, map, Option, Some, None, refl, sym, ap, ◌∙◌, arith}
-use Rattle.std.specs.Option.{option_map_or, option_to_list}
-use Rattle.coin_safety.specs.Numbers.{least}
+use Rattle.coin_safety.proofs.Words.{◌≡◌, ℕ, min, List, [], ◌∷◌, ◌++◌, length, map, Option, Some, None, refl, sym, ap, ◌∙◌, arith, option_map_or, option_to_list, least}
 
 -- the less of two, where there are two
 abbrev pub joined : Option ℕ → Option ℕ → Option ℕ

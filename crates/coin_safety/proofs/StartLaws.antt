@@ -1,14 +1,6 @@
 -- The start of an exit at the last of a coin's links.
-use Rattle.std.proofs.Common.{◌≡◌, ◌∙◌, ℕ, ◌-◌, List, [], ◌∷◌, ◌++◌, length, take, slice_get, Some, refl, sym, ap, arith}
+use Rattle.coin_safety.proofs.Words.{◌≡◌, ◌∙◌, ℕ, ◌-◌, List, [], ◌∷◌, ◌++◌, length, take, slice_get, Some, refl, sym, ap, arith, RootCall, Shown, RawOpening, Link, Links, last_spend, guard_of, tip_shown, start_by, start_of}
 use Rattle.std.proofs.lemmas.Grind.{common_steps}
-use Rattle.plasma_tx.specs.declared.call.RootCall.{RootCall}
-use Rattle.plasma_tx.specs.declared.call.Shown.{Shown}
-use Rattle.plasma_tx.specs.declared.opening.RawOpening.{RawOpening}
-use Rattle.plasma_tx.specs.declared.links.Link.{Link}
-use Rattle.plasma_tx.specs.declared.links.Links.{Links}
-use Rattle.plasma_tx.specs.Links.{last_spend}
-use Rattle.watch_duty.specs.Duty.{guard_of, tip_shown}
-use Rattle.coin_safety.specs.Advice.{start_by, start_of}
 
 get-last : {X : Type 0} (xs : List X) (x : X) → slice_get (xs ++ x ∷ []) (length xs) ≡ Some x
 get-last [] x = refl

@@ -1,38 +1,6 @@
 -- The own start that is advised for the history of a coin is accepted.
-use Rattle.std.proofs.Common.{◌≡◌, ℕ, suc, ◌-◌, ◌<◌, ◌≤◌, ◌==◌, ◌&&◌, ◌||◌, not, Bool, true, false, if◌then◌else◌, List, [], ◌∷◌, ◌++◌, length, take, Option, Some, None, inl, inr, refl, sym, ap, ◌∙◌, subst, arith}
-use Rattle.std.specs.Prelude.{is_none, is_some, nat_lt, slice_get}
-use Rattle.std.specs.List.{AllByRecursion}
-use Rattle.std.specs.Option.{option_map, option_map_or}
-use Rattle.std.proofs.lemmas.Bool.{and_parts, and_from, eqb-true, eq-eqb, lt-ltb, ltb-false, not-true, true≢false}
-use Rattle.std.proofs.lemmas.List.Elements.{recursion_from_All}
-use Rattle.plasma_tx.specs.declared.owner.Owner.{Owner}
-use Rattle.plasma_tx.specs.declared.signed_tx.SignedTx.{SignedTx}
-use Rattle.plasma_tx.specs.declared.links.Link.{Link}
-use Rattle.plasma_tx.specs.declared.links.Links.{Links}
-use Rattle.plasma_tx.specs.declared.call.Shown.{Shown}
-use Rattle.plasma_tx.specs.declared.call.Shown.TheVariants.{Deposit as AtDeposit, Spend}
-use Rattle.plasma_tx.specs.declared.call.RootCall.{RootCall}
-use Rattle.plasma_tx.specs.declared.call.RootCall.TheVariants.{StartDeposit, StartSpend}
-use Rattle.plasma_tx.specs.declared.views.CoinView.{CoinView}
-use Rattle.plasma_tx.specs.declared.rules.TheConstants.{EXIT_BOND}
-use Rattle.plasma_tx.specs.Accepted.{ShowsTx, StartsDeposit, StartsSpend}
-use Rattle.plasma_tx.specs.Links.{last_spend, last_owner_of, tip_of}
-use Rattle.plasma_tx.specs.Money.{balance_of}
-use Rattle.plasma_tx.specs.Shown.{Tests, Rules, root_at, shown_owner}
-use Rattle.plasma_tx.specs.Table.{answer_to, is_accepted, is_parent_of}
-use Rattle.plasma_tx.specs.Views.{block_of, Exit, exit_at, exit_view, exits_of, is_withdrawn}
-use Rattle.plasma_tx.proofs.Acceptance.{transfers_are_shown, shown_calls_are_accepted}
-use Rattle.plasma_tx.proofs.Names.{some_same}
-use Rattle.coin_history.specs.declared.bundle.Bundle.{Bundle}
-use Rattle.coin_history.specs.History.{opens_block, AreLinked, IsHistory}
+use Rattle.coin_safety.proofs.Words.{◌≡◌, ℕ, suc, ◌-◌, ◌<◌, ◌≤◌, ◌==◌, ◌&&◌, ◌||◌, not, Bool, true, false, if◌then◌else◌, List, [], ◌∷◌, ◌++◌, length, take, Option, Some, None, inl, inr, refl, sym, ap, ◌∙◌, subst, arith, is_none, is_some, nat_lt, slice_get, AllByRecursion, option_map, option_map_or, and_parts, and_from, eqb-true, eq-eqb, lt-ltb, ltb-false, not-true, true≢false, recursion_from_All, Owner, SignedTx, Link, Links, Shown, AtDeposit, Spend, RootCall, StartDeposit, StartSpend, CoinView, EXIT_BOND, ShowsTx, StartsDeposit, StartsSpend, last_spend, last_owner_of, tip_of, balance_of, Tests, Rules, root_at, shown_owner, answer_to, is_accepted, is_parent_of, block_of, Exit, exit_at, exit_view, exits_of, is_withdrawn, transfers_are_shown, shown_calls_are_accepted, some_same, Bundle, opens_block, AreLinked, IsHistory, tip_from, owner_from, tip-is, last_owner-is, tip_shown, Rises, has-above, links-opened, Has, has-left, has-right, Kept, standing, tip, holder, exit_in, left_by, may_leave, is_planted, start_by, start_of, own_start, takes, is_poor}
 use Rattle.coin_history.specs.Laws.{first_links}
-use Rattle.coin_history.proofs.HistoryLinks.{tip_from, owner_from, tip-is, last_owner-is}
-use Rattle.watch_duty.specs.Duty.{tip_shown}
-use Rattle.watch_duty.proofs.GuardLinks.{Rises, has-above, links-opened}
-use Rattle.watch_duty.proofs.Members.{Has, has-left, has-right}
-use Rattle.coin_safety.specs.declared.kept.Kept.{Kept}
-use Rattle.coin_safety.specs.Advice.{standing, tip, holder, exit_in, left_by, may_leave, is_planted, start_by, start_of, own_start, takes}
-use Rattle.coin_safety.specs.Laws.{is_poor}
 use Rattle.coin_safety.proofs.Blocks.{Spends, Own, rise, linked, got-has}
 use Rattle.coin_safety.proofs.Viewed.{viewed}
 

@@ -1,26 +1,7 @@
 -- Each word tells what it says.
-use Rattle.std.proofs.Common.{◌≡◌, ℕ, ◌+◌, ◌-◌, ◌<◌, ◌≤◌, ◌==◌, ◌&&◌, ◌||◌, not, Bool, true, false, if◌then◌else◌, List, [], ◌∷◌, ◌++◌, map, Option, Some, None, inl, inr, refl, sym, ap, ◌∙◌, subst, arith}
-use Rattle.std.specs.Prelude.{is_some, nat_lt, nat_le, unwrap_or}
-use Rattle.std.specs.List.{Contains, list_any}
-use Rattle.std.specs.Option.{option_map, option_or}
-use Rattle.std.proofs.lemmas.Bool.{and_parts, and_from, eqb-true, eq-eqb, ltb-true, ltb-false, leb-true, leb-false, true≢false, not-true}
-use Rattle.plasma_tx.specs.declared.call.RootCall.{RootCall}
-use Rattle.plasma_tx.specs.declared.call.RootCall.TheVariants.{Finish}
-use Rattle.plasma_tx.specs.declared.views.ExitView.{ExitView}
-use Rattle.plasma_tx.specs.declared.rules.TheConstants.{RESPONSE_WINDOW, EXIT_PERIOD}
-use Rattle.plasma_tx.specs.Views.{now, Exit, exit_at, has_no_open_challenge}
-use Rattle.plasma_tx.proofs.Names.{some_same}
-use Rattle.watch_duty.specs.Duty.{due_for}
-use Rattle.watch_duty.proofs.Members.{Has, has-contains, contains-has, has-left, has-right}
-use Rattle.coin_safety.specs.declared.kept.Kept.{Kept}
-use Rattle.coin_safety.specs.declared.kept.Sent.{Sent}
-use Rattle.coin_safety.specs.declared.payment.Payment.{Payment}
+use Rattle.coin_safety.proofs.Words.{◌≡◌, ℕ, ◌+◌, ◌-◌, ◌<◌, ◌≤◌, ◌==◌, ◌&&◌, ◌||◌, not, Bool, true, false, if◌then◌else◌, List, [], ◌∷◌, ◌++◌, map, Option, Some, None, inl, inr, refl, sym, ap, ◌∙◌, subst, arith, is_some, nat_lt, nat_le, unwrap_or, Contains, list_any, option_map, option_or, and_parts, and_from, eqb-true, eq-eqb, ltb-true, ltb-false, leb-true, leb-false, true≢false, not-true, RootCall, Finish, ExitView, RESPONSE_WINDOW, EXIT_PERIOD, now, Exit, exit_at, has_no_open_challenge, some_same, due_for, Has, has-contains, contains-has, has-left, has-right, Kept, Sent, Payment, later, least, standing, tip, holder, exit_in, may_leave, is_planted, start_of, own_start, finishes, instead, due, shown_again, timed, calls_of, missing, is_strange, away, sent_word, left_leaf, left_word, next_line, starter, paid_by, payment, paid_word, first_end, come, late_word, stale_word, end_of_call, due_by, at_once, act_by, act_word, leaving_word, safe_word, IsHere, ends, AreAhead, NothingIsDue, IsToLeave, IsActBy, IsFresh, IsPaidOut, IsFirst, IsAway, Tells, WordsTell}
 use Rattle.coin_safety.specs.declared.word.Word.{Word}
 use Rattle.coin_safety.specs.declared.word.Word.TheVariants.{Act, Sent as IsSent, Leaving, Paid, Gone, Late, Frozen, Stale}
-use Rattle.coin_safety.specs.Numbers.{later, least}
-use Rattle.coin_safety.specs.Advice.{standing, tip, holder, exit_in, may_leave, is_planted, start_of, own_start, finishes, instead, due, shown_again, timed, calls_of, missing}
-use Rattle.coin_safety.specs.Words.{is_strange, away, sent_word, left_leaf, left_word, next_line, starter, paid_by, payment, paid_word, first_end, come, late_word, stale_word, end_of_call, due_by, at_once, act_by, act_word, leaving_word, safe_word}
-use Rattle.coin_safety.specs.Laws.{IsHere, ends, AreAhead, NothingIsDue, IsToLeave, IsActBy, IsFresh, IsPaidOut, IsFirst, IsAway, Tells, WordsTell}
 use Rattle.coin_safety.proofs.Advised.{due-unsent}
 use Rattle.coin_safety.proofs.Found.{any-found, none-any, found-has, missed, front-none, back-none, each-none, least-none, least-has, least-le}
 use Rattle.coin_safety.proofs.Viewed.{paid-withdrawn}

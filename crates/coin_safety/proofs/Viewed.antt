@@ -1,27 +1,8 @@
 -- What a call does, by the views of the exits that stand.
-use Rattle.std.proofs.Common.{◌≡◌, ℕ, ◌+◌, ◌-◌, ◌==◌, ◌&&◌, ◌||◌, cond, ◌<◌, ◌++◌, take, get_or, not, Bool, true, false, if◌then◌else◌, List, [], ◌∷◌, length, map, filter, find, Option, Some, None, refl, sym, ap, ◌∙◌, arith}
-use Rattle.std.specs.Prelude.{is_some}
-use Rattle.std.specs.List.{list_all}
-use Rattle.std.specs.Option.{option_map, option_map_or, option_or}
-use Rattle.std.proofs.lemmas.Bool.{eqb-true, true≢false}
-use Rattle.plasma_tx.specs.declared.call.RootCall.{RootCall}
-use Rattle.plasma_tx.specs.declared.call.RootCall.TheVariants.{Fund, Tick, Deposit, Commit, StartDeposit, StartSpend, After, Between, Before, Respond, Finish}
+use Rattle.coin_safety.proofs.Words.{◌≡◌, ℕ, ◌+◌, ◌-◌, ◌==◌, ◌&&◌, ◌||◌, cond, ◌<◌, ◌++◌, take, get_or, not, Bool, true, false, if◌then◌else◌, List, [], ◌∷◌, length, map, filter, find, Option, Some, None, refl, sym, ap, ◌∙◌, arith, is_some, list_all, option_map, option_map_or, option_or, eqb-true, true≢false, RootCall, Fund, Tick, Deposit, Commit, StartDeposit, StartSpend, After, Between, Before, Respond, Finish, CHALLENGE_BOND, EXIT_BOND, ChallengeView, CoinView, ExitView, Standing, has_no_open_view, map-append, filter_more, views, option_or-none, Payment, exit_in, Follows, FollowsAll, payment_by, share, own_bonds, cancel_share, payout_share, finish_share, paid_to, taken_of, next_line, starter, paid_by, payment}
 use Rattle.plasma_tx.specs.declared.movement.Movement.{Movement}
-use Rattle.plasma_tx.specs.declared.rules.TheConstants.{CHALLENGE_BOND, EXIT_BOND}
-use Rattle.plasma_tx.specs.declared.views.ChallengeView.{ChallengeView}
-use Rattle.plasma_tx.specs.declared.views.CoinView.{CoinView}
-use Rattle.plasma_tx.specs.declared.views.ExitView.{ExitView}
 use Rattle.plasma_tx.specs.Money.{moved, amount_of, open_challenges, challenge_bonds, cancel_pays, payout, finish_pays, pays, takes, share_of, balance_of}
-use Rattle.plasma_tx.specs.Standing.{Standing, has_no_open_view}
 use Rattle.plasma_tx.specs.Views.{coin_at, Challenge, Exit, is_exit, exits, exit_at, exits_of, exit_view, challenge_view, has_no_open_challenge, is_withdrawn}
-use Rattle.std.proofs.lemmas.List.{map-append}
-use Rattle.std.proofs.lemmas.List.Elements.{filter_more}
-use Rattle.plasma_tx.proofs.CoinExits.{views}
-use Rattle.plasma_tx.proofs.Names.{option_or-none}
-use Rattle.coin_safety.specs.declared.payment.Payment.{Payment}
-use Rattle.coin_safety.specs.Advice.{exit_in}
-use Rattle.coin_safety.specs.Lean.{Follows, FollowsAll, payment_by, share, own_bonds, cancel_share, payout_share, finish_share, paid_to, taken_of}
-use Rattle.coin_safety.specs.Words.{next_line, starter, paid_by, payment}
 
 -- ---- the exit at a block
 

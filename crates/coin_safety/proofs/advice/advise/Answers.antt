@@ -1,7 +1,4 @@
-use Rattle.std.proofs.Common.{length, sym, ap, ◌∙◌}
-use Rattle.std.proofs.lemmas.Bool.{eqb-true}
-use Rattle.plasma_tx.specs.Views.{exits_of}
-use Rattle.coin_safety.specs.Words.{end_of_call}
+use Rattle.coin_safety.proofs.Words.{length, sym, ap, ◌∙◌, eqb-true, exits_of, end_of_call}
 use Rattle.coin_safety.proofs.Numbers.{least-empty}
 use Rattle.coin_safety.proofs.advice.advise.Goals as goal
 

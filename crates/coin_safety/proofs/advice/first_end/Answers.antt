@@ -1,7 +1,4 @@
-use Rattle.std.proofs.Common.{refl}
-use Rattle.coin_safety.specs.Numbers.{least}
-use Rattle.plasma_tx.specs.Views.{exits_of}
-use Rattle.coin_safety.specs.Words.{end_of_call}
+use Rattle.coin_safety.proofs.Words.{refl, least, exits_of, end_of_call}
 use Rattle.coin_safety.proofs.Ends.{lesser-more}
 use Rattle.coin_safety.proofs.advice.first_end.Goals as goal
 

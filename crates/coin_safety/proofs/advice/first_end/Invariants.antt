@@ -1,7 +1,4 @@
-use Rattle.std.proofs.Common.{◌≡◌, map, take}
-use Rattle.plasma_tx.specs.Views.{exits_of}
-use Rattle.coin_safety.specs.Numbers.{least}
-use Rattle.coin_safety.specs.Words.{end_of_call}
+use Rattle.coin_safety.proofs.Words.{◌≡◌, map, take, exits_of, least, end_of_call}
 use Rattle.coin_safety.proofs.advice.first_end.Given as goal
 
 abbrev pub invariant-loop-call : goal.invariant-loop-call

@@ -1,6 +1,4 @@
-use Rattle.std.proofs.Common.{◌≡◌, ◌++◌, ◌<◌, List, length, map, take, drop, slice_set, slice_index_or, ap, ◌∙◌, arith}
-use Rattle.plasma_tx.specs.declared.call.RootCall.{RootCall}
-use Rattle.coin_safety.specs.Advice.{instead}
+use Rattle.coin_safety.proofs.Words.{◌≡◌, ◌++◌, ◌<◌, List, length, map, take, drop, slice_set, slice_index_or, ap, ◌∙◌, arith, RootCall, instead}
 use Rattle.coin_safety.proofs.Lists.{changed-more}
 use Rattle.coin_safety.proofs.advice.replace.Goals as goal
 

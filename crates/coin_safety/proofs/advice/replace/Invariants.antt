@@ -1,5 +1,4 @@
-use Rattle.std.proofs.Common.{◌≡◌, ◌++◌, map, take, drop}
-use Rattle.coin_safety.specs.Advice.{instead}
+use Rattle.coin_safety.proofs.Words.{◌≡◌, ◌++◌, map, take, drop, instead}
 use Rattle.coin_safety.proofs.advice.replace.Given as goal
 
 abbrev pub invariant-loop-call : goal.invariant-loop-call

@@ -1,6 +1,4 @@
-use Rattle.std.proofs.Common.{rules, ◌∙◌, ap, sym}
-use Rattle.std.specs.Ordering.{nat_cmp}
-use Rattle.std.specs.BTreeMap.{get}
+use Rattle.coin_safety.proofs.Words.{rules, ◌∙◌, ap, sym, nat_cmp, get}
 use Rattle.coin_safety.proofs.Answered.{answers-begin, answer-more, answer-same}
 use Rattle.coin_safety.proofs.answers.answers.Goals as goal
 use Rattle.coin_safety.proofs.answers.answers.Goals.{in-Some+in_ok-insert, in_default}

@@ -1,9 +1,4 @@
-use Rattle.std.proofs.Common.{◌≡◌, ℕ, take, reverse}
-use Rattle.std.specs.Prelude.{slice_get}
-use Rattle.std.specs.Option.{option_and_then}
-use Rattle.std.specs.Ordering.{nat_cmp}
-use Rattle.std.specs.BTreeMap.{get}
-use Rattle.coin_safety.specs.Advice.{answer_in, answer_shown}
+use Rattle.coin_safety.proofs.Words.{◌≡◌, ℕ, take, reverse, slice_get, option_and_then, nat_cmp, get, answer_in, answer_shown}
 use Rattle.coin_safety.proofs.answers.answers.Given as goal
 
 abbrev pub invariant-loop-place : goal.invariant-loop-place

@@ -1,6 +1,4 @@
-use Rattle.std.proofs.Common.{rules, ◌∙◌}
-use Rattle.std.specs.Ordering.{nat_cmp}
-use Rattle.std.specs.BTreeMap.{get}
+use Rattle.coin_safety.proofs.Words.{rules, ◌∙◌, nat_cmp, get}
 use Rattle.coin_safety.proofs.Indexes.{lowest-more, lowest-none}
 use Rattle.coin_safety.proofs.index.lowest_blocks.Goals as goal
 

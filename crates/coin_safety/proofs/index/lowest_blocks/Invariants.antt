@@ -1,5 +1,4 @@
-use Rattle.std.proofs.Common.{take}
-use Rattle.coin_safety.specs.Index.{AreLowest}
+use Rattle.coin_safety.proofs.Words.{take, AreLowest}
 use Rattle.coin_safety.proofs.index.lowest_blocks.Given as goal
 
 abbrev pub invariant-loop-exit : goal.invariant-loop-exit

@@ -1,6 +1,4 @@
-use Rattle.std.proofs.Common.{◌<◌, ◌-◌, length, arith}
-use Rattle.std.specs.Ordering.{nat_cmp}
-use Rattle.std.specs.BTreeMap.{get}
+use Rattle.coin_safety.proofs.Words.{◌<◌, ◌-◌, length, arith, nat_cmp, get}
 use Rattle.coin_safety.proofs.Indexes.{places-more}
 use Rattle.coin_safety.proofs.index.places.Goals as goal
 

@@ -1,7 +1,4 @@
-use Rattle.std.proofs.Common.{rules, ◌∙◌, ap, sym}
-use Rattle.std.specs.Option.{option_copied}
-use Rattle.std.specs.Ordering.{nat_cmp}
-use Rattle.std.specs.BTreeMap.{get}
+use Rattle.coin_safety.proofs.Words.{rules, ◌∙◌, ap, sym, option_copied, nat_cmp, get}
 use Rattle.coin_safety.proofs.Indexes.{starts-none, start-more, start-same}
 use Rattle.coin_safety.proofs.index.starts.Goals as goal
 use Rattle.coin_safety.proofs.index.starts.Goals.{in-Some+in_ok-insert, in_default}

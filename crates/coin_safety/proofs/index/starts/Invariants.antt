@@ -1,10 +1,4 @@
-use Rattle.std.proofs.Common.{◌≡◌, ℕ, take, reverse}
-use Rattle.std.specs.Prelude.{slice_get}
-use Rattle.std.specs.Option.{option_and_then}
-use Rattle.std.specs.Ordering.{nat_cmp}
-use Rattle.std.specs.BTreeMap.{get}
-use Rattle.coin_safety.specs.Advice.{start_shown}
-use Rattle.coin_safety.specs.Index.{spend_in}
+use Rattle.coin_safety.proofs.Words.{◌≡◌, ℕ, take, reverse, slice_get, option_and_then, nat_cmp, get, start_shown, spend_in}
 use Rattle.coin_safety.proofs.index.starts.Given as goal
 
 abbrev pub invariant-loop-place : goal.invariant-loop-place

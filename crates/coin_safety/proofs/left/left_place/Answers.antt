@@ -1,9 +1,4 @@
-use Rattle.std.proofs.Common.{ℕ, List, Option, sym, ap, ◌∙◌}
-use Rattle.std.specs.Prelude.{is_some, slice_get}
-use Rattle.std.specs.Option.{option_and_then}
-use Rattle.plasma_tx.specs.declared.opening.RawOpening.{RawOpening}
-use Rattle.plasma_tx.specs.declared.call.RootCall.{RootCall}
-use Rattle.coin_safety.specs.Advice.{left_in}
+use Rattle.coin_safety.proofs.Words.{ℕ, List, Option, sym, ap, ◌∙◌, is_some, slice_get, option_and_then, RawOpening, RootCall, left_in}
 use Rattle.coin_safety.proofs.Answered.{mapped-some, left-begin, left-more, left-same}
 use Rattle.coin_safety.proofs.left.left_place.Goals as goal
 use Rattle.coin_safety.proofs.left.left_place.Goals.{then-is_some, else-is_some}

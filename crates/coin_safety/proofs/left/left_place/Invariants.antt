@@ -1,7 +1,4 @@
-use Rattle.std.proofs.Common.{◌≡◌, take, reverse}
-use Rattle.std.specs.Prelude.{slice_get}
-use Rattle.std.specs.Option.{option_and_then}
-use Rattle.coin_safety.specs.Advice.{left_in, left_by}
+use Rattle.coin_safety.proofs.Words.{◌≡◌, take, reverse, slice_get, option_and_then, left_in, left_by}
 use Rattle.coin_safety.proofs.left.left_place.Given as goal
 
 abbrev pub invariant-loop-place : goal.invariant-loop-place

@@ -1,7 +1,4 @@
-use Rattle.std.proofs.Common.{◌≡◌, ◌+◌, ◌∷◌, [], List, take, reverse, refl, sym, ap, ◌∙◌, subst}
-use Rattle.plasma_tx.specs.declared.call.RootCall.{RootCall}
-use Rattle.plasma_tx.specs.Money.{balance_of}
-use Rattle.coin_safety.specs.Lean.{FollowsAll}
+use Rattle.coin_safety.proofs.Words.{◌≡◌, ◌+◌, ◌∷◌, [], List, take, reverse, refl, sym, ap, ◌∙◌, subst, RootCall, balance_of, FollowsAll}
 use Rattle.coin_safety.proofs.Followed.{all-none, all-push}
 use Rattle.coin_safety.proofs.Lists.{log-more, whole-log}
 use Rattle.coin_safety.proofs.Viewed.{balance-more}

@@ -1,6 +1,4 @@
-use Rattle.std.proofs.Common.{◌≡◌, take, reverse}
-use Rattle.plasma_tx.specs.Money.{balance_of}
-use Rattle.coin_safety.specs.Lean.{FollowsAll}
+use Rattle.coin_safety.proofs.Words.{◌≡◌, take, reverse, balance_of, FollowsAll}
 use Rattle.coin_safety.proofs.money.balance.Given as goal
 
 abbrev pub invariant-loop-call : goal.invariant-loop-call

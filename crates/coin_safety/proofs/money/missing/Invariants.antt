@@ -1,6 +1,4 @@
-use Rattle.std.proofs.Common.{◌≡◌, take}
-use Rattle.std.specs.List.{sum_by}
-use Rattle.coin_safety.specs.Advice.{takes}
+use Rattle.coin_safety.proofs.Words.{◌≡◌, take, sum_by, takes}
 use Rattle.coin_safety.proofs.money.missing.Given as goal
 
 abbrev pub invariant-loop-call : goal.invariant-loop-call

@@ -1,5 +1,4 @@
-use Rattle.std.proofs.Common.{◌∙◌, false}
-use Rattle.plasma_tx.specs.declared.views.ChallengeView.{ChallengeView}
+use Rattle.coin_safety.proofs.Words.{◌∙◌, false, ChallengeView}
 use Rattle.coin_safety.proofs.Viewed.{own-none, own-open, own-answered}
 use Rattle.coin_safety.proofs.money.own_bonds.Goals as goal
 use Rattle.coin_safety.proofs.money.own_bonds.Goals.{then-not-challenge+in_ok-money, else-not-challenge}

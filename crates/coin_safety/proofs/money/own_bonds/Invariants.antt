@@ -1,5 +1,4 @@
-use Rattle.std.proofs.Common.{◌≡◌, take}
-use Rattle.coin_safety.specs.Lean.{own_bonds}
+use Rattle.coin_safety.proofs.Words.{◌≡◌, take, own_bonds}
 use Rattle.coin_safety.proofs.money.own_bonds.Given as goal
 
 abbrev pub invariant-loop-challenge : goal.invariant-loop-challenge

@@ -1,7 +1,4 @@
-use Rattle.std.proofs.Common.{◌≡◌, ◌+◌, ◌∷◌, [], List, take, reverse, refl, sym, ap, ◌∙◌, subst}
-use Rattle.plasma_tx.specs.declared.call.RootCall.{RootCall}
-use Rattle.coin_safety.specs.Lean.{Follows}
-use Rattle.coin_safety.specs.Words.{payment}
+use Rattle.coin_safety.proofs.Words.{◌≡◌, ◌+◌, ◌∷◌, [], List, take, reverse, refl, sym, ap, ◌∙◌, subst, RootCall, Follows, payment}
 use Rattle.coin_safety.proofs.Followed.{follows-none, follows-next}
 use Rattle.coin_safety.proofs.Lists.{log-more, whole-log, so-many}
 use Rattle.coin_safety.proofs.Viewed.{payment-more, unpaid}

@@ -1,6 +1,4 @@
-use Rattle.std.proofs.Common.{◌≡◌, take, reverse}
-use Rattle.coin_safety.specs.Lean.{Follows}
-use Rattle.coin_safety.specs.Words.{payment}
+use Rattle.coin_safety.proofs.Words.{◌≡◌, take, reverse, Follows, payment}
 use Rattle.coin_safety.proofs.payment.payment_of.Given as goal
 
 abbrev pub invariant-loop-place : goal.invariant-loop-place

@@ -1,5 +1,4 @@
-use Rattle.std.proofs.Common.{◌∙◌, false}
-use Rattle.plasma_tx.specs.declared.views.ChallengeView.{ChallengeView}
+use Rattle.coin_safety.proofs.Words.{◌∙◌, false, ChallengeView}
 use Rattle.coin_safety.proofs.Numbers.{least-same}
 use Rattle.coin_safety.proofs.Ends.{unanswered-more, answered-more}
 use Rattle.coin_safety.proofs.windows.first_answer_end.Goals as goal

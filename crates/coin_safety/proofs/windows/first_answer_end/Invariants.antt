@@ -1,7 +1,4 @@
-use Rattle.std.proofs.Common.{◌≡◌, ◌++◌, take}
-use Rattle.std.specs.Option.{option_to_list}
-use Rattle.coin_safety.specs.Numbers.{least}
-use Rattle.coin_safety.specs.Words.{answer_ends}
+use Rattle.coin_safety.proofs.Words.{◌≡◌, ◌++◌, take, option_to_list, least, answer_ends}
 use Rattle.coin_safety.proofs.windows.first_answer_end.Given as goal
 
 abbrev pub invariant-loop-challenge : goal.invariant-loop-challenge

@@ -1,5 +1,4 @@
-use Rattle.std.proofs.Common.{sym, ap, ◌∙◌}
-use Rattle.plasma_tx.specs.ChallengeLists.{is_challenged}
+use Rattle.coin_safety.proofs.Words.{sym, ap, ◌∙◌, is_challenged}
 use Rattle.coin_safety.proofs.Ends.{challenged-first, unchallenged-first}
 use Rattle.coin_safety.proofs.windows.first_exit_end.Goals as goal
 

@@ -1,8 +1,4 @@
-use Rattle.std.proofs.Common.{◌++◌, map, ap, ◌∙◌}
-use Rattle.plasma_tx.specs.Views.{exits_of}
-use Rattle.coin_safety.specs.Numbers.{least}
-use Rattle.coin_safety.specs.Advice.{standing, shown_again}
-use Rattle.coin_safety.specs.Words.{end_of_call}
+use Rattle.coin_safety.proofs.Words.{◌++◌, map, ap, ◌∙◌, exits_of, least, standing, shown_again, end_of_call}
 use Rattle.coin_safety.proofs.look.Look.advice.Goals as goal
 
 pub act_by-requires-clause-end : goal.act_by-requires-clause-end

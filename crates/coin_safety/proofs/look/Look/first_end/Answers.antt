@@ -1,6 +1,4 @@
-use Rattle.std.proofs.Common.{refl}
-use Rattle.coin_safety.specs.Numbers.{least}
-use Rattle.coin_safety.specs.Words.{ends_of}
+use Rattle.coin_safety.proofs.Words.{refl, least, ends_of}
 use Rattle.coin_safety.proofs.Ends.{first-more}
 use Rattle.coin_safety.proofs.look.Look.first_end.Goals as goal
 

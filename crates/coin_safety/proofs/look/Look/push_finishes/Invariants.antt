@@ -1,6 +1,4 @@
-use Rattle.std.proofs.Common.{◌≡◌, ◌++◌, map, filter, take}
-use Rattle.plasma_tx.specs.declared.call.RootCall.TheVariants.{Finish}
-use Rattle.coin_safety.specs.Advice.{is_to_finish}
+use Rattle.coin_safety.proofs.Words.{◌≡◌, ◌++◌, map, filter, take, Finish, is_to_finish}
 use Rattle.coin_safety.proofs.look.Look.push_finishes.Given as goal
 
 abbrev pub invariant-loop-exit : goal.invariant-loop-exit

@@ -1,9 +1,4 @@
-use Rattle.std.proofs.Common.{◌++◌, ◌&&◌, List, sym, ap, ◌∙◌, append-nil}
-use Rattle.std.specs.Prelude.{nat_lt}
-use Rattle.std.specs.List.{list_any}
-use Rattle.plasma_tx.specs.declared.call.RootCall.{RootCall}
-use Rattle.plasma_tx.specs.declared.views.ExitView.{ExitView}
-use Rattle.coin_safety.specs.Advice.{is_answered, tip}
+use Rattle.coin_safety.proofs.Words.{◌++◌, ◌&&◌, List, sym, ap, ◌∙◌, append-nil, nat_lt, list_any, RootCall, ExitView, is_answered, tip}
 use Rattle.coin_safety.proofs.Again.{none-again}
 use Rattle.coin_safety.proofs.look.Look.push_shown_again.Goals as goal
 

@@ -1,6 +1,4 @@
-use Rattle.std.proofs.Common.{◌≡◌, ◌++◌, take}
-use Rattle.std.specs.List.{flat_map}
-use Rattle.coin_safety.specs.Advice.{again_for}
+use Rattle.coin_safety.proofs.Words.{◌≡◌, ◌++◌, take, flat_map, again_for}
 use Rattle.coin_safety.proofs.look.Look.push_shown_again.Given as goal
 
 abbrev pub invariant-loop-exit : goal.invariant-loop-exit
