@@ -1,38 +1,14 @@
 -- The bundle of a tip that the walk passed is a history.
-use Rattle.std.proofs.Common.{◌≡◌, ◌≢◌, ◌⊎◌, ℕ, zero, suc, ◌+◌, ◌-◌, ◌^◌, ◌<◌, ◌≤◌, ◌==◌, true, false, if◌then◌else◌, List, [], ◌∷◌, length, filter, Option, Some, None, Ok, inl, inr, refl, sym, ap, ◌∙◌, subst, arith}
-use Rattle.std.specs.Prelude.{is_some}
-use Rattle.std.specs.List.{AllByRecursion, range_with_len}
-use Rattle.std.specs.Option.{option_and_then}
-use Rattle.std.proofs.lemmas.Bool.{ne_eqb, eq-eqb, lt-ltb, or_left, or_right, and_from}
-use Rattle.std.proofs.lemmas.List.Elements.{All-from_recursion}
-use Rattle.std.proofs.lemmas.Grind.{common_steps}
-use Rattle.sparse_merkle.specs.declared.tree.Entry.{Entry}
-use Rattle.sparse_merkle.specs.TreeDigest.{leaf_of}
+use Rattle.operator_rules.proofs.Words.{◌≡◌, ◌≢◌, ◌⊎◌, ℕ, zero, suc, ◌+◌, ◌-◌, ◌^◌, ◌<◌, ◌≤◌, ◌==◌, true, false, if◌then◌else◌, List, [], ◌∷◌, length, filter, Option, Some, None, Ok, inl, inr, refl, sym, ap, ◌∙◌, subst, arith, is_some, AllByRecursion, range_with_len, option_and_then, ne_eqb, eq-eqb, lt-ltb, or_left, or_right, and_from, All-from_recursion, common_steps, Entry, leaf_of, SignedTx, RootCall, Deposit, CoinView, leaf_in, transfer_in, is_signed_by, blocks, coins, new_coin, coin_at, transfer-read, empty-none, some_same, Rules, tests_by, root_at, is_committed, committed_blocks, blocks_of, opens_block, is_empty, is_absent, transfer_of, links_in, links_of, AreLinked, IsHistory, deposit-le, opens-le, Forest, forest_of, tree_of, tree_at, opening_in_tree, Place, start_of, place_at, present, openings_of, tip_asked, bundle_of, Act, log_of, kept_notes, sealed_in, IsHonest, AreDistinct, IsGoodBundle, BundlesAreHistories, ZeroAsksForThePresentTip, PresentBundlesAreHistories}
 use Rattle.plasma_tx.specs.declared.opening.RawOpening.{RawOpening}
-use Rattle.plasma_tx.specs.declared.signed_tx.SignedTx.{SignedTx}
 use Rattle.plasma_tx.specs.declared.links.Links.{Links}
-use Rattle.plasma_tx.specs.declared.call.RootCall.{RootCall}
-use Rattle.plasma_tx.specs.declared.call.RootCall.TheVariants.{Deposit}
-use Rattle.plasma_tx.specs.declared.views.CoinView.{CoinView}
 use Rattle.plasma_tx.specs.Links.{last_owner_of}
-use Rattle.plasma_tx.specs.Openings.{leaf_in}
-use Rattle.plasma_tx.specs.Transfer.{transfer_in, is_signed_by}
-use Rattle.plasma_tx.specs.Views.{blocks, coins, new_coin, coin_at}
-use Rattle.plasma_tx.proofs.Leaves.{transfer-read, empty-none}
-use Rattle.plasma_tx.proofs.Names.{some_same}
-use Rattle.plasma_tx.specs.Shown.{Rules, tests_by, root_at}
 use Rattle.coin_history.specs.declared.bundle.Bundle.{Bundle}
 use Rattle.coin_history.specs.Bundles.{IsBundle}
-use Rattle.coin_history.specs.History.{is_committed, committed_blocks, blocks_of, opens_block, is_empty, is_absent, transfer_of, links_in, links_of, AreLinked, IsHistory}
 use Rattle.coin_history.specs.Checking.{may_be_tip, history_of}
 use Rattle.coin_history.proofs.HistoryOpenings.{rising-up, asked-from_blocks}
 use Rattle.coin_history.proofs.HistoryLinks.{every-weaker, tip_from, owner_from, tip-is, last_owner-is, with_tx, IsLeaf}
 use Rattle.coin_history.proofs.HistoryFound.{histories_pass}
-use Rattle.coin_history.proofs.HistoryGrow.{deposit-le, opens-le}
-use Rattle.operator_rules.specs.Trees.{Forest, forest_of, tree_of, tree_at, opening_in_tree}
-use Rattle.operator_rules.specs.Walk.{Place, start_of, place_at, present}
-use Rattle.operator_rules.specs.Commands.{openings_of, tip_asked, bundle_of}
-use Rattle.operator_rules.specs.Acts.{Act, log_of, kept_notes, sealed_in, IsHonest, AreDistinct, IsGoodBundle, BundlesAreHistories, ZeroAsksForThePresentTip, PresentBundlesAreHistories}
 use Rattle.operator_rules.proofs.Trees.{tree_of-has, root_at-le}
 use Rattle.operator_rules.proofs.Places.{place-start, place-moved, place-stays, place-idle, place-committed, place-passed}
 use Rattle.operator_rules.proofs.Track.{IsTracked, Tracks}

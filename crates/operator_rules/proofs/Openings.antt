@@ -1,32 +1,16 @@
 -- What an opening shows that the operator makes of a tree.
-use Rattle.std.proofs.Common.{◌≡◌, ℕ, ◌*◌, ◌^◌, ◌<◌, ◌≤◌, true, List, [], ◌∷◌, length, drop, All, Some, Ok, refl, ap, length-append, length-drop, arith}
-use Rattle.std.specs.List.{concat}
-use Rattle.std.proofs.lemmas.Bool.{and_parts, eqb-true}
-use Rattle.std.proofs.lemmas.List.Elements.{All-head, All-tail}
-use Rattle.std.proofs.lemmas.Grind.{common_steps}
+use Rattle.operator_rules.proofs.Words.{◌≡◌, ℕ, ◌*◌, ◌^◌, ◌<◌, ◌≤◌, true, List, [], ◌∷◌, length, drop, All, Some, Ok, refl, ap, length-append, length-drop, arith, concat, and_parts, eqb-true, All-head, All-tail, common_steps, Entry, leaf_of, root_of, path_to, IsMap, is_opening-path_to, SignedTx, RootCall, opening_text, leaf_in, opening_in, body_length, signed_in, is_signed_by, signed_in-ok, tests_by, root_at, opens_block, opening_in_tree}
 use Rattle.lms_sign.specs.declared.types.LmsTypes.{LmsTypes}
 use Rattle.lms_sign.specs.Types.{chains, height}
 use Rattle.lms_sign.specs.Valid.{is_valid}
 use Rattle.gate_journal.specs.Image.{most}
-use Rattle.sparse_merkle.specs.declared.tree.Entry.{Entry}
-use Rattle.sparse_merkle.specs.TreeDigest.{leaf_of, root_of, path_to, IsMap}
 use Rattle.sparse_merkle.specs.MaskedPath.{MaskedPath, IsMaskedPath, proof_text}
 use Rattle.sparse_merkle.specs.PathProof.{proof_of_path}
 use Rattle.sparse_merkle.proofs.ProofLaws.{set_bits-bound}
 use Rattle.sparse_merkle.proofs.PathProof.{IsMaskedPath-proof_of_path, is_canonical-proof_of_path, proof_path-proof_of_path, length-path_to, All-path_to-long}
-use Rattle.sparse_merkle.proofs.TreeLaws.{is_opening-path_to}
 use Rattle.plasma_tx.specs.declared.owner.Owner.{Owner}
 use Rattle.plasma_tx.specs.declared.opening.Opening.{Opening}
-use Rattle.plasma_tx.specs.declared.signed_tx.SignedTx.{SignedTx}
-use Rattle.plasma_tx.specs.declared.call.RootCall.{RootCall}
-use Rattle.plasma_tx.specs.Openings.{opening_text, leaf_in, opening_in}
-use Rattle.plasma_tx.specs.Spelling.{body_length, signed_in}
-use Rattle.plasma_tx.specs.Transfer.{is_signed_by}
 use Rattle.plasma_tx.proofs.OpeningTexts.{opening_in-text, leaf-shown}
-use Rattle.plasma_tx.proofs.Spellings.{signed_in-ok}
-use Rattle.plasma_tx.specs.Shown.{tests_by, root_at}
-use Rattle.coin_history.specs.History.{opens_block}
-use Rattle.operator_rules.specs.Trees.{opening_in_tree}
 
 -- ---- a signed leaf is short
 

@@ -1,17 +1,5 @@
 -- The walk of a coin: where it is after each block.
-use Rattle.std.proofs.Common.{◌≡◌, ◌⊎◌, ℕ, zero, suc, ◌<◌, ◌≤◌, true, List, [], Option, Some, None, inl, inr, refl, sym, ap, ◌∙◌, arith}
-use Rattle.std.proofs.lemmas.Bool.{cases_eq, cases_lt, eq-eqb, lt-ltb, le-ltb, and_from}
-use Rattle.std.proofs.lemmas.Grind.{common_steps}
-use Rattle.sparse_merkle.specs.declared.tree.Entry.{Entry}
-use Rattle.sparse_merkle.specs.TreeDigest.{leaf_of}
-use Rattle.plasma_tx.specs.declared.signed_tx.SignedTx.{SignedTx}
-use Rattle.plasma_tx.specs.declared.call.RootCall.{RootCall}
-use Rattle.plasma_tx.specs.declared.views.CoinView.{CoinView}
-use Rattle.plasma_tx.specs.Transfer.{transfer_in, is_signed_by}
-use Rattle.plasma_tx.proofs.Leaves.{empty-none}
-use Rattle.plasma_tx.specs.Shown.{root_at}
-use Rattle.operator_rules.specs.Trees.{tree_of}
-use Rattle.operator_rules.specs.Walk.{Place, start_of, moved_by, transfer_at, place_at}
+use Rattle.operator_rules.proofs.Words.{◌≡◌, ◌⊎◌, ℕ, zero, suc, ◌<◌, ◌≤◌, true, List, [], Option, Some, None, inl, inr, refl, sym, ap, ◌∙◌, arith, cases_eq, cases_lt, eq-eqb, lt-ltb, le-ltb, and_from, common_steps, Entry, leaf_of, SignedTx, RootCall, CoinView, transfer_in, is_signed_by, empty-none, root_at, tree_of, Place, start_of, moved_by, transfer_at, place_at}
 
 -- the leaf is the next link of block n after this place
 pub record IsLink (tag : List ℕ) (c n : ℕ) (last : Place) (leaf : List ℕ) : Type 0 where

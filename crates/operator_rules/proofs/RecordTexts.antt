@@ -1,15 +1,5 @@
 -- Identities and notes are read as they are written, and have one spelling.
-use Rattle.std.proofs.Common.{◌≡◌, ℕ, ◌+◌, ◌^◌, ◌<◌, ◌≤◌, ◌==◌, ◌&&◌, true, List, [], ◌∷◌, ◌++◌, Option, Some, None, length, take, drop, refl, sym, ap, ◌∙◌, subst, inl, inr, append-nil, arith}
-use Rattle.std.specs.Prelude.{IfSome, nat_le}
-use Rattle.std.specs.List.{slice_range}
-use Rattle.std.proofs.lemmas.Bool.{cases_Bool, and_parts, eqb-true, eq-eqb, leb-true, le-leb}
-use Rattle.std.proofs.lemmas.List.{length-append, take_all, take-append-drop}
-use Rattle.std.proofs.lemmas.List.Elements.{All-tail}
-use Rattle.std.proofs.lemmas.Grind.{common_steps}
-use Rattle.plasma_tx.specs.Spelling.{AreBytes, number_text, number_at, signed_in}
-use Rattle.plasma_tx.proofs.Names.{some_same}
-use Rattle.plasma_tx.proofs.Parts.{range-front, range-back, range-join, length-range, bytes-range, number-below, number-bytes, number-in}
-use Rattle.operator_rules.specs.Records.{Identity, identity_text, identity_of, identity_in, Note, Offered, Laid, Sealed, note_text, is_read, spells_transfer, note_in}
+use Rattle.operator_rules.proofs.Words.{◌≡◌, ℕ, ◌+◌, ◌^◌, ◌<◌, ◌≤◌, ◌==◌, ◌&&◌, true, List, [], ◌∷◌, ◌++◌, Option, Some, None, length, take, drop, refl, sym, ap, ◌∙◌, subst, inl, inr, append-nil, arith, IfSome, nat_le, slice_range, cases_Bool, and_parts, eqb-true, eq-eqb, leb-true, le-leb, length-append, take_all, take-append-drop, All-tail, common_steps, AreBytes, number_text, number_at, signed_in, some_same, range-front, range-back, range-join, length-range, bytes-range, number-below, number-bytes, number-in, Identity, identity_text, identity_of, identity_in, Note, Offered, Laid, Sealed, note_text, is_read, spells_transfer, note_in}
 use Rattle.operator_rules.specs.Laws.{IsIdentity, IsNote}
 
 -- ---- an identity's bytes are read as that identity

@@ -1,24 +1,6 @@
 -- The record that a command adds is one of the operator's kinds.
-use Rattle.std.proofs.Common.{◌≡◌, ℕ, true, List, [], ◌∷◌, ◌++◌, Option, Some, None, Ok, Err, refl, sym, ap, ◌∙◌, arith}
-use Rattle.std.specs.Prelude.{Result}
-use Rattle.std.proofs.lemmas.List.{reverse-append}
-use Rattle.std.proofs.lemmas.List.Elements.{filter_map-append}
-use Rattle.std.proofs.lemmas.Bool.{false≢true}
-use Rattle.std.proofs.lemmas.Grind.{common_steps}
-use Rattle.node_journal.specs.Effect.{Effect, unless}
+use Rattle.operator_rules.proofs.Words.{◌≡◌, ℕ, true, List, [], ◌∷◌, ◌++◌, Option, Some, None, Ok, Err, refl, sym, ap, ◌∙◌, arith, Result, reverse-append, filter_map-append, false≢true, common_steps, Effect, unless, SignedTx, TxRefusal, RootCall, CoinView, number_text, number_at, signed_in, coin_at, some_same, OfferRefusal, Note, Offered, Laid, Sealed, note_text, is_read, note_in, tag_in, operator_kinds, who_is, notes_of, Forest, forest_in, offer_at, offer_of, offer_effect, lay_effect, seal_effect, CommandsKeepTheRole, CommandsAddTheirNotes}
 use Rattle.node_journal.specs.Role.{may_follow}
-use Rattle.plasma_tx.specs.declared.signed_tx.SignedTx.{SignedTx}
-use Rattle.plasma_tx.specs.declared.signed_tx.TxRefusal.{TxRefusal}
-use Rattle.plasma_tx.specs.declared.call.RootCall.{RootCall}
-use Rattle.plasma_tx.specs.declared.views.CoinView.{CoinView}
-use Rattle.plasma_tx.specs.Spelling.{number_text, number_at, signed_in}
-use Rattle.plasma_tx.specs.Views.{coin_at}
-use Rattle.plasma_tx.proofs.Names.{some_same}
-use Rattle.operator_rules.specs.declared.refusal.OfferRefusal.{OfferRefusal}
-use Rattle.operator_rules.specs.Records.{Note, Offered, Laid, Sealed, note_text, is_read, note_in, tag_in, operator_kinds, who_is, notes_of}
-use Rattle.operator_rules.specs.Trees.{Forest}
-use Rattle.operator_rules.specs.Commands.{forest_in, offer_at, offer_of, offer_effect, lay_effect, seal_effect}
-use Rattle.operator_rules.specs.Acts.{CommandsKeepTheRole, CommandsAddTheirNotes}
 use Rattle.operator_rules.proofs.RecordTexts.{offered-read, laid-some, laid-read, sealed-read}
 
 -- records begin with the identity that has their tag

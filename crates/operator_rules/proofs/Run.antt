@@ -1,38 +1,8 @@
 -- Each run of an honest operator keeps a coin's leaves in order.
-use Rattle.std.proofs.Common.{◌≡◌, ℕ, ◌+◌, ◌<◌, ◌≤◌, ◌==◌, ◌&&◌, not, Bool, true, false, if◌then◌else◌, List, [], ◌∷◌, ◌++◌, Contains, Option, Some, None, Ok, Err, inl, inr, refl, sym, ap, ◌∙◌, subst, arith}
-use Rattle.std.specs.Prelude.{Result}
-use Rattle.std.specs.List.{list_any, AllByRecursion, slice_range}
-use Rattle.std.specs.Option.{option_and_then}
-use Rattle.std.specs.Str.{bytes_eq}
-use Rattle.std.proofs.lemmas.Bool.{cases_Bool, cases_eq, cases_lt, eq-eqb, ne_eqb, eqb-true, and_cases, or_parts, not-false, true≢false, false_from_ne_true}
-use Rattle.std.proofs.lemmas.List.Elements.{Contains-append_left, Contains-push, Contains-push_cases}
-use Rattle.std.proofs.lemmas.Slice.Eq.{bytes_eq-Decides}
-use Rattle.std.proofs.lemmas.Grind.{common_steps}
-use Rattle.node_journal.specs.Effect.{Effect, first_cause, unless}
-use Rattle.sparse_merkle.specs.declared.tree.Entry.{Entry}
-use Rattle.sparse_merkle.specs.TreeDigest.{leaf_of, with_leaf, root_of, IsMap}
-use Rattle.sparse_merkle.proofs.TreeLaws.{leaf_of-with_leaf, leaf_of-with_other, IsMap-with_leaf}
-use Rattle.plasma_tx.specs.declared.signed_tx.SignedTx.{SignedTx}
-use Rattle.plasma_tx.specs.declared.signed_tx.TxRefusal.{TxRefusal}
-use Rattle.plasma_tx.specs.declared.call.RootCall.{RootCall}
-use Rattle.plasma_tx.specs.declared.call.RootCall.TheVariants.{Deposit, Commit}
+use Rattle.operator_rules.proofs.Words.{◌≡◌, ℕ, ◌+◌, ◌<◌, ◌≤◌, ◌==◌, ◌&&◌, not, Bool, true, false, if◌then◌else◌, List, [], ◌∷◌, ◌++◌, Contains, Option, Some, None, Ok, Err, inl, inr, refl, sym, ap, ◌∙◌, subst, arith, Result, list_any, AllByRecursion, slice_range, option_and_then, bytes_eq, cases_Bool, cases_eq, cases_lt, eq-eqb, ne_eqb, eqb-true, and_cases, or_parts, not-false, true≢false, false_from_ne_true, Contains-append_left, Contains-push, Contains-push_cases, bytes_eq-Decides, common_steps, Effect, first_cause, unless, Entry, leaf_of, with_leaf, root_of, IsMap, leaf_of-with_leaf, leaf_of-with_other, IsMap-with_leaf, SignedTx, TxRefusal, RootCall, Deposit, Commit, CoinView, signed_in, may_stand_in, is_signed_by, blocks, coins, block_at, new_coin, coin_at, some_same, bytes-range, number-below, root_in, root_at, is_empty, OfferRefusal, Note, Offered, Laid, Sealed, Forest, coin_named, after_note, forest_of, tree_of, is_root_committed, has_leaf, is_waiting, Place, present, late_causes, offer_at, offer_of, Act, Called, Kept, log_of, kept_notes, sealed_in, times_committed, times_sealed, IsHonestNote, IsHonestCall, IsHonest, AreDistinct}
 use Rattle.plasma_tx.specs.declared.views.BlockView.TheVariants.{Root}
-use Rattle.plasma_tx.specs.declared.views.CoinView.{CoinView}
-use Rattle.plasma_tx.specs.Spelling.{signed_in}
-use Rattle.plasma_tx.specs.Transfer.{may_stand_in, is_signed_by}
-use Rattle.plasma_tx.specs.Views.{blocks, coins, block_at, new_coin, coin_at}
-use Rattle.plasma_tx.proofs.Names.{some_same}
-use Rattle.plasma_tx.proofs.Parts.{bytes-range, number-below}
-use Rattle.plasma_tx.specs.Shown.{root_in, root_at}
 use Rattle.plasma_tx.proofs.Bounds.{coin_at-le}
-use Rattle.coin_history.specs.History.{is_empty}
-use Rattle.operator_rules.specs.declared.refusal.OfferRefusal.{OfferRefusal}
 use Rattle.operator_rules.specs.declared.refusal.OfferRefusal.TheVariants.{PoolHasCoin}
-use Rattle.operator_rules.specs.Records.{Note, Offered, Laid, Sealed}
-use Rattle.operator_rules.specs.Trees.{Forest, coin_named, after_note, forest_of, tree_of, is_root_committed, has_leaf, is_waiting}
-use Rattle.operator_rules.specs.Walk.{Place, present}
-use Rattle.operator_rules.specs.Commands.{late_causes, offer_at, offer_of}
-use Rattle.operator_rules.specs.Acts.{Act, Called, Kept, log_of, kept_notes, sealed_in, times_committed, times_sealed, IsHonestNote, IsHonestCall, IsHonest, AreDistinct}
 use Rattle.operator_rules.proofs.Trees.{one_if, leaf_cases, filled-not, empty-from, coin-named, any-counted, none-has, count-push, tree_of-has, tree_of-grow, sealed-tree, blocks-up, root_at-deposit}
 use Rattle.operator_rules.proofs.Track.{IsReady, IsUnknown, NoneWaits, Tracks, IsKnown, IsOnce, tracked-pool, tracked-offer, tracks-log, tracked-new, sealed-fresh, tracked-seal, tracked-commit}
 

@@ -1,28 +1,5 @@
 -- What stays true of a coin's leaves while the operator is honest.
-use Rattle.std.proofs.Common.{◌≡◌, ◌≢◌, ◌⊎◌, ℕ, suc, ◌+◌, ◌≤◌, not, true, false, List, [], ◌∷◌, ◌++◌, Contains, Option, Some, None, Ok, inl, inr, refl, sym, ap, ◌∙◌, subst, arith}
-use Rattle.std.specs.Prelude.{Result}
-use Rattle.std.proofs.lemmas.Bool.{cases_Bool, cases_eq, or_left, or_right, true≢false, false_from_ne_true}
-use Rattle.std.proofs.lemmas.List.Elements.{Contains-append_left, Contains-push, Contains-push_cases}
-use Rattle.std.proofs.lemmas.Slice.Eq.{bytes_eq-Decides}
-use Rattle.std.proofs.lemmas.Grind.{common_steps}
-use Rattle.sparse_merkle.specs.declared.tree.Entry.{Entry}
-use Rattle.sparse_merkle.specs.TreeDigest.{leaf_of, root_of}
-use Rattle.plasma_tx.specs.declared.signed_tx.SignedTx.{SignedTx}
-use Rattle.plasma_tx.specs.declared.signed_tx.TxRefusal.{TxRefusal}
-use Rattle.plasma_tx.specs.declared.call.RootCall.{RootCall}
-use Rattle.plasma_tx.specs.declared.call.RootCall.TheVariants.{Commit}
-use Rattle.plasma_tx.specs.declared.views.CoinView.{CoinView}
-use Rattle.plasma_tx.specs.Spelling.{signed_in}
-use Rattle.plasma_tx.specs.Transfer.{may_stand_in, is_signed_by}
-use Rattle.plasma_tx.specs.Views.{blocks}
-use Rattle.plasma_tx.proofs.Leaves.{transfer-read}
-use Rattle.plasma_tx.proofs.Names.{some_same}
-use Rattle.plasma_tx.specs.Shown.{root_at}
-use Rattle.coin_history.specs.History.{is_empty}
-use Rattle.coin_history.proofs.HistoryGrow.{root_at-grown}
-use Rattle.operator_rules.specs.Trees.{tree_of, is_root_committed}
-use Rattle.operator_rules.specs.Walk.{Place, place_at, present}
-use Rattle.operator_rules.specs.Acts.{AreDistinct}
+use Rattle.operator_rules.proofs.Words.{◌≡◌, ◌≢◌, ◌⊎◌, ℕ, suc, ◌+◌, ◌≤◌, not, true, false, List, [], ◌∷◌, ◌++◌, Contains, Option, Some, None, Ok, inl, inr, refl, sym, ap, ◌∙◌, subst, arith, Result, cases_Bool, cases_eq, or_left, or_right, true≢false, false_from_ne_true, Contains-append_left, Contains-push, Contains-push_cases, bytes_eq-Decides, common_steps, Entry, leaf_of, root_of, SignedTx, TxRefusal, RootCall, Commit, CoinView, signed_in, may_stand_in, is_signed_by, blocks, transfer-read, some_same, root_at, is_empty, root_at-grown, tree_of, is_root_committed, Place, place_at, present, AreDistinct}
 use Rattle.operator_rules.proofs.Trees.{leaf_cases, filled-not, transfer-from_signed, tree_of-has, tree_of-grow, blocks-up, root_at-le, root_at-none, root_at-new, committed-block}
 use Rattle.operator_rules.proofs.Places.{IsLink, place-bound, place-mono, place-moved, place-stays, place-idle, place-same}
 

@@ -1,26 +1,5 @@
 -- Leaves as transfers, the trees of roots, and how often a root is sealed and committed.
-use Rattle.std.proofs.Common.{◌≡◌, ◌⊎◌, ℕ, zero, suc, ◌+◌, ◌<◌, ◌≤◌, ◌||◌, not, Bool, true, false, if◌then◌else◌, List, [], ◌∷◌, ◌++◌, length, find, filter, Contains, Some, None, Ok, inl, inr, refl, sym, ap, ◌∙◌, arith}
-use Rattle.std.specs.List.{list_any, AllByRecursion}
-use Rattle.std.specs.Str.{bytes_eq}
-use Rattle.std.proofs.lemmas.Bool.{cases_eq, eq-eqb, ne_eqb, and_from, or_cases, or_parts, true≢false, false≢true}
-use Rattle.std.proofs.lemmas.List.Elements.{All-from_recursion, All-contains}
-use Rattle.std.proofs.lemmas.Slice.Eq.{bytes_eq-Decides}
-use Rattle.std.proofs.lemmas.Grind.{common_steps}
-use Rattle.sparse_merkle.specs.declared.tree.Entry.{Entry}
-use Rattle.sparse_merkle.specs.TreeDigest.{root_of}
-use Rattle.plasma_tx.specs.declared.signed_tx.SignedTx.{SignedTx}
-use Rattle.plasma_tx.specs.declared.call.RootCall.{RootCall}
-use Rattle.plasma_tx.specs.declared.call.RootCall.TheVariants.{Deposit, Commit}
-use Rattle.plasma_tx.specs.Spelling.{signed_in}
-use Rattle.plasma_tx.specs.Transfer.{may_stand_in, transfer_in}
-use Rattle.plasma_tx.specs.Views.{blocks, block_at}
-use Rattle.plasma_tx.proofs.Names.{some_same}
-use Rattle.plasma_tx.proofs.Spellings.{signed_in-ok}
-use Rattle.plasma_tx.specs.Shown.{root_at}
-use Rattle.coin_history.specs.History.{is_empty}
-use Rattle.coin_history.proofs.HistoryGrow.{block_at-le, root_at-grown}
-use Rattle.operator_rules.specs.Trees.{coin_named, tree_of, commits, is_root_committed}
-use Rattle.operator_rules.specs.Acts.{times_sealed}
+use Rattle.operator_rules.proofs.Words.{◌≡◌, ◌⊎◌, ℕ, zero, suc, ◌+◌, ◌<◌, ◌≤◌, ◌||◌, not, Bool, true, false, if◌then◌else◌, List, [], ◌∷◌, ◌++◌, length, find, filter, Contains, Some, None, Ok, inl, inr, refl, sym, ap, ◌∙◌, arith, list_any, AllByRecursion, bytes_eq, cases_eq, eq-eqb, ne_eqb, and_from, or_cases, or_parts, true≢false, false≢true, All-from_recursion, All-contains, bytes_eq-Decides, common_steps, Entry, root_of, SignedTx, RootCall, Deposit, Commit, signed_in, may_stand_in, transfer_in, blocks, block_at, some_same, signed_in-ok, root_at, is_empty, block_at-le, root_at-grown, coin_named, tree_of, commits, is_root_committed, times_sealed}
 
 -- ---- leaves
 
