@@ -1,15 +1,7 @@
 -- A body's bytes as a message of a leaf.
-use Rattle.std.proofs.Common.{◌≡◌, ℕ, ◌==◌, true, List, [], ◌++◌, length, Option, Some, None, is_ok, refl, sym, ap, ◌∙◌, append-nil, arith}
-use Rattle.std.specs.List.{slice_range}
-use Rattle.std.proofs.lemmas.Bool.{and_from, eq-eqb}
-use Rattle.std.proofs.lemmas.List.{length-append}
-use Rattle.std.proofs.lemmas.Grind.{common_steps}
-use Rattle.plasma_tx.specs.declared.owner.Owner.{Owner}
-use Rattle.plasma_tx.specs.declared.body.Body.{Body}
-use Rattle.plasma_tx.specs.declared.signed_tx.SignedTx.{SignedTx}
+use Rattle.node_rules.proofs.Words.{◌≡◌, ℕ, ◌==◌, true, List, [], ◌++◌, length, Option, Some, None, is_ok, refl, sym, ap, ◌∙◌, append-nil, arith, slice_range, and_from, eq-eqb, length-append, common_steps, Owner, Body, SignedTx, is_body}
 use Rattle.plasma_tx.specs.Spelling.{IsBody, number_text, owner_text, common_text, body_text, signed_text, body_in, body_length, body_at_start}
 use Rattle.plasma_tx.proofs.Spellings.{Fits, body_in-fits, signed_in-text, signed_in-ok, common-long}
-use Rattle.node_rules.specs.WalletRecords.{is_body}
 
 -- the body that its bytes begin with
 pub body-read : (body : Body) → IsBody body → body_at_start (body_text body) ≡ body

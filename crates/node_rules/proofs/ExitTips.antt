@@ -1,33 +1,5 @@
 -- The links of a coin that a wallet holds or leaves with end at its tip.
-use Rattle.std.proofs.Common.{◌≡◌, ◌≢◌, ℕ, suc, ◌-◌, ◌==◌, ◌&&◌, Bool, true, false, if◌then◌else◌, List, [], ◌∷◌, length, map, drop, filter, find, Option, Some, None, is_some, is_ok, inl, inr, refl, sym, ap, ◌∙◌, subst, arith}
-use Rattle.std.specs.Prelude.{unwrap_or}
-use Rattle.std.specs.List.{All, filter_map, list_all, cons_option}
-use Rattle.std.specs.Option.{option_map}
-use Rattle.std.proofs.lemmas.List.{map-append}
-use Rattle.std.proofs.lemmas.Bool.{cases_Bool, and_parts, eqb-true, eq-eqb, false≢true}
-use Rattle.std.proofs.lemmas.List.Elements.{All-nil, All-head, All-tail, All-push, All-contains, Contains-append_cases}
-use Rattle.std.proofs.lemmas.Grind.{common_steps}
-use Rattle.plasma_tx.specs.declared.opening.RawOpening.{RawOpening}
-use Rattle.plasma_tx.specs.declared.signed_tx.SignedTx.{SignedTx}
-use Rattle.plasma_tx.specs.declared.links.Links.{Links}
-use Rattle.plasma_tx.specs.declared.call.RootCall.{RootCall}
-use Rattle.plasma_tx.specs.declared.views.CoinView.{CoinView}
-use Rattle.plasma_tx.specs.Links.{tip_of}
-use Rattle.plasma_tx.specs.declared.owner.Owner.{Owner}
-use Rattle.plasma_tx.specs.Openings.{opening_in}
-use Rattle.plasma_tx.specs.Views.{coin_at}
-use Rattle.plasma_tx.proofs.Names.{some_same}
-use Rattle.coin_history.specs.declared.bundle.Bundle.{Bundle}
-use Rattle.coin_history.specs.History.{transfer_of, links_in, links_of}
-use Rattle.coin_history.proofs.HistoryLinks.{tip_from, tip-is, with_tx}
-use Rattle.wallet_core.specs.declared.notes.CoinTip.{CoinTip}
-use Rattle.wallet_core.specs.State.{own_deposit, noted_tips}
-use Rattle.wallet_core.specs.Laws.{IsTip}
-use Rattle.node_rules.specs.Kept.{chain_of, shows_link, ends_at, is_kept, kept_in, kept_links}
-use Rattle.node_rules.specs.Watcher.{is_of}
-use Rattle.node_rules.specs.WalletRecords.{Note, Accepts, LeavesWith, Reclaims, accepts, note_in, who_is, notes_of, accepted_of, coin_tip, state_notes}
-use Rattle.node_rules.specs.Wallet.{WalletRecords, who, noted, links_at}
-use Rattle.node_rules.specs.WalletCommandLaws.{HaveOpenings, ExitsAreOfTheTip}
+use Rattle.node_rules.proofs.Words.{◌≡◌, ◌≢◌, ℕ, suc, ◌-◌, ◌==◌, ◌&&◌, Bool, true, false, if◌then◌else◌, List, [], ◌∷◌, length, map, drop, filter, find, Option, Some, None, is_some, is_ok, inl, inr, refl, sym, ap, ◌∙◌, subst, arith, unwrap_or, All, filter_map, list_all, cons_option, option_map, map-append, cases_Bool, and_parts, eqb-true, eq-eqb, false≢true, All-nil, All-head, All-tail, All-push, All-contains, Contains-append_cases, common_steps, RawOpening, SignedTx, Links, RootCall, CoinView, tip_of, Owner, opening_in, coin_at, some_same, Bundle, transfer_of, links_in, links_of, tip_from, tip-is, with_tx, CoinTip, own_deposit, noted_tips, IsTip, chain_of, shows_link, ends_at, is_kept, kept_in, kept_links, is_of, Note, Accepts, LeavesWith, Reclaims, accepts, note_in, who_is, notes_of, accepted_of, coin_tip, state_notes, WalletRecords, who, noted, links_at, HaveOpenings, ExitsAreOfTheTip}
 use Rattle.node_rules.proofs.KeptTexts.{only_kept-ok}
 use Rattle.node_rules.proofs.OneMore.{All-reverse, All-filter_map}
 use Rattle.node_rules.proofs.WalletRole.{held-tip, leaving-tip}

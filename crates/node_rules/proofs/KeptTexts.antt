@@ -1,36 +1,9 @@
 -- What is kept of a history is read as it is written, has one spelling, and shows the links again.
-use Rattle.std.proofs.Common.{◌≡◌, ℕ, ◌<◌, ◌^◌, Bool, true, false, List, [], ◌∷◌, ◌++◌, length, map, filter, Option, Some, is_some, is_ok, Ok, Err, refl, sym, ◌∙◌, ap, subst, arith}
-use Rattle.std.specs.Prelude.{Result}
-use Rattle.std.specs.List.{All, AllByRecursion, list_all}
-use Rattle.std.specs.Option.{option_map, option_map_or}
-use Rattle.std.proofs.lemmas.Bool.{eq-eqb, and_from}
+use Rattle.node_rules.proofs.Words.{◌≡◌, ℕ, ◌<◌, ◌^◌, Bool, true, false, List, [], ◌∷◌, ◌++◌, length, map, filter, Option, Some, is_some, is_ok, Ok, Err, refl, sym, ◌∙◌, ap, subst, arith, Result, All, AllByRecursion, list_all, option_map, option_map_or, eq-eqb, and_from, All-filter, recursion_from_All, common_steps, RawOpening, Opening, Link, Links, RootCall, CoinView, tip_of, AreBytes, coin_at, some_same, Rules, tests_by, opens_root, Bundle, HistoryRefusal, AreRising, IsBundle, bundle_in, opens_block, transfer_of, links_in, links_of, IsHistory, history_of, bundle_in-text, text-bundle_in, tip_from, tip-is, with_tx, coin_at-grown, chain_of, kept_of, shows_link, ends_at, is_kept, only_kept, kept_links, checked_by, links_handed, KeptCoinsAreReadBack, KeptCoinsHaveOneSpelling, IsReadBack, KeptHistoriesAreReadBack, KeptLinksStay}
 use Rattle.std.proofs.lemmas.List.Sums.{length-filter, count_by-le-length}
 use Rattle.std.proofs.lemmas.List.Kept.{AllPairs-filter}
-use Rattle.std.proofs.lemmas.List.Elements.{All-filter, recursion_from_All}
-use Rattle.std.proofs.lemmas.Grind.{common_steps}
-use Rattle.plasma_tx.specs.declared.opening.RawOpening.{RawOpening}
-use Rattle.plasma_tx.specs.declared.opening.Opening.{Opening}
 use Rattle.plasma_tx.specs.declared.opening.OpeningRefusal.{OpeningRefusal}
-use Rattle.plasma_tx.specs.declared.links.Link.{Link}
-use Rattle.plasma_tx.specs.declared.links.Links.{Links}
-use Rattle.plasma_tx.specs.declared.call.RootCall.{RootCall}
-use Rattle.plasma_tx.specs.declared.views.CoinView.{CoinView}
-use Rattle.plasma_tx.specs.Links.{tip_of}
-use Rattle.plasma_tx.specs.Spelling.{AreBytes}
-use Rattle.plasma_tx.specs.Views.{coin_at}
-use Rattle.plasma_tx.proofs.Names.{some_same}
-use Rattle.plasma_tx.specs.Shown.{Rules, tests_by, opens_root}
-use Rattle.coin_history.specs.declared.bundle.Bundle.{Bundle}
-use Rattle.coin_history.specs.declared.refusal.HistoryRefusal.{HistoryRefusal}
-use Rattle.coin_history.specs.Bundles.{AreRising, IsBundle, bundle_in}
-use Rattle.coin_history.specs.History.{opens_block, transfer_of, links_in, links_of, IsHistory}
-use Rattle.coin_history.specs.Checking.{history_of}
-use Rattle.coin_history.proofs.BundleLaws.{bundle_in-text, text-bundle_in}
-use Rattle.coin_history.proofs.HistoryLinks.{tip_from, tip-is, with_tx}
 use Rattle.coin_history.proofs.HistoryFound.{histories_are_found}
-use Rattle.coin_history.proofs.HistoryGrow.{coin_at-grown}
-use Rattle.node_rules.specs.Kept.{chain_of, kept_of, shows_link, ends_at, is_kept, only_kept, kept_links, checked_by, links_handed}
-use Rattle.node_rules.specs.Laws.{KeptCoinsAreReadBack, KeptCoinsHaveOneSpelling, IsReadBack, KeptHistoriesAreReadBack, KeptLinksStay}
 
 -- ---- bytes
 

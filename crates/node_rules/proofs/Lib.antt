@@ -1,3 +1,4 @@
+pub mod Words
 pub mod KeptTexts
 pub mod OneMore
 pub mod NumberTexts

@@ -1,12 +1,7 @@
 -- The bytes of two numbers, of a tag and an account, and of short numbers.
-use Rattle.std.proofs.Common.{◌≡◌, ℕ, ◌+◌, ◌^◌, ◌<◌, ◌≤◌, List, ◌++◌, length, take, refl, ap, ◌∙◌, arith}
-use Rattle.std.specs.List.{slice_range}
+use Rattle.node_rules.proofs.Words.{◌≡◌, ℕ, ◌+◌, ◌^◌, ◌<◌, ◌≤◌, List, ◌++◌, length, take, refl, ap, ◌∙◌, arith, slice_range, length-append, take_all, common_steps, AreBytes, number_text, number_at, range-front, range-back, range-join, length-range, bytes-range, number-bytes, number-in, short_number-bytes}
 use Rattle.std.specs.Int.{w32, to_be_bytes, from_be_bytes}
-use Rattle.std.proofs.lemmas.List.{length-append, take_all}
 use Rattle.std.proofs.lemmas.Nat.{from_be_bytes-to_be_bytes_4}
-use Rattle.std.proofs.lemmas.Grind.{common_steps}
-use Rattle.plasma_tx.specs.Spelling.{AreBytes, number_text, number_at}
-use Rattle.plasma_tx.proofs.Parts.{range-front, range-back, range-join, length-range, bytes-range, number-bytes, number-in, short_number-bytes}
 
 -- ---- two numbers
 

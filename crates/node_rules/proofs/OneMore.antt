@@ -1,10 +1,5 @@
 -- Records with one more.
-use Rattle.std.proofs.Common.{◌≡◌, List, [], ◌∷◌, ◌++◌, Option, Some, None, refl, sym, subst, arith}
-use Rattle.std.specs.Prelude.{IfSome, reverse}
-use Rattle.std.specs.List.{All, filter_map, cons_option}
-use Rattle.std.proofs.lemmas.List.{reverse-append}
-use Rattle.std.proofs.lemmas.List.Elements.{All-nil, All-cons, All-head, All-tail, All-push, filter_map-append}
-use Rattle.std.proofs.lemmas.Grind.{common_steps}
+use Rattle.node_rules.proofs.Words.{◌≡◌, List, [], ◌∷◌, ◌++◌, Option, Some, None, refl, sym, subst, arith, IfSome, reverse, All, filter_map, cons_option, reverse-append, All-nil, All-cons, All-head, All-tail, All-push, filter_map-append, common_steps}
 
 -- what holds of a record, wherever there is one
 pub if_some-each : {X : Type 0} (found : Option X) (P : X → Type 0) → ((x : X) → found ≡ Some x → P x)

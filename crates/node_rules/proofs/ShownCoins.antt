@@ -1,20 +1,7 @@
 -- What the openings of a kept coin show.
-use Rattle.std.proofs.Common.{◌≡◌, ◌<◌, ◌+◌, ◌==◌, ◌&&◌, ℕ, Bool, true, false, if◌then◌else◌, List, [], ◌∷◌, ◌++◌, length, take, get_or, Option, None, Some, Ok, is_ok, is_some, refl, sym, arith}
-use Rattle.std.specs.List.{list_all}
-use Rattle.std.specs.Option.{option_map}
-use Rattle.std.proofs.lemmas.List.{take_more}
-use Rattle.std.proofs.lemmas.List.Folds.{list_all-append}
-use Rattle.std.proofs.lemmas.List.Elements.{filter_map-append}
-use Rattle.std.proofs.lemmas.Grind.{common_steps}
-use Rattle.plasma_tx.specs.declared.opening.RawOpening.{RawOpening}
-use Rattle.plasma_tx.specs.declared.opening.Opening.{Opening}
-use Rattle.plasma_tx.specs.declared.links.Link.{Link}
-use Rattle.plasma_tx.specs.declared.signed_tx.SignedTx.{SignedTx}
-use Rattle.plasma_tx.specs.Openings.{opening_in}
+use Rattle.node_rules.proofs.Words.{◌≡◌, ◌<◌, ◌+◌, ◌==◌, ◌&&◌, ℕ, Bool, true, false, if◌then◌else◌, List, [], ◌∷◌, ◌++◌, length, take, get_or, Option, None, Some, Ok, is_ok, is_some, refl, sym, arith, list_all, option_map, take_more, list_all-append, filter_map-append, common_steps, RawOpening, Opening, Link, SignedTx, opening_in, link_of, links_in, chain_of, shows_link}
 use Rattle.plasma_tx.specs.Transfer.{transfer_in}
 use Rattle.plasma_tx.proofs.OpeningTexts.{leaf-shown}
-use Rattle.coin_history.specs.History.{link_of, links_in}
-use Rattle.node_rules.specs.Kept.{chain_of, shows_link}
 use Rattle.node_rules.proofs.Still.{none_left}
 
 and-true : (a b : Bool) → a ≡ true → b ≡ true → (a && b) ≡ true

@@ -1,9 +1,6 @@
 -- Nothing is due for a coin of which no exit stands.
-use Rattle.std.proofs.Common.{◌≡◌, ℕ, ◌==◌, true, List, [], ◌∷◌, length, refl, arith}
+use Rattle.node_rules.proofs.Words.{◌≡◌, ℕ, ◌==◌, true, List, [], ◌∷◌, length, refl, arith, common_steps, RootCall, exits_of}
 use Rattle.std.proofs.lemmas.Bool.Decides.{nat_tests}
-use Rattle.std.proofs.lemmas.Grind.{common_steps}
-use Rattle.plasma_tx.specs.declared.call.RootCall.{RootCall}
-use Rattle.plasma_tx.specs.Views.{exits_of}
 use Rattle.node_rules.specs.declared.kept_coin.KeptCoin.{KeptCoin}
 use Rattle.node_rules.specs.KeptCoins.{due_for_coin}
 

@@ -1,36 +1,7 @@
 -- Which record each command of a wallet adds, and in which state.
-use Rattle.std.proofs.Common.{◌≡◌, ◌≢◌, ◌==◌, map, ℕ, ◌<◌, ◌&&◌, Bool, true, false, if◌then◌else◌, List, [], ◌∷◌, length, Option, Some, None, Ok, Err, refl, arith}
-use Rattle.std.specs.Prelude.{Result, nat_le}
-use Rattle.std.specs.Option.{option_map_or}
-use Rattle.std.proofs.lemmas.Bool.{or_parts, eq-eqb, false≢true, and_parts, and_from, leb-false}
-use Rattle.std.proofs.lemmas.Grind.{common_steps}
-use Rattle.node_journal.specs.Effect.{first_cause}
-use Rattle.lms_sign.specs.Types.{leaf_count}
-use Rattle.leaf_journal.specs.Records.{binding_record, is_marked, marker, messages_of, MayBind}
-use Rattle.plasma_tx.specs.declared.owner.Owner.{Owner}
-use Rattle.plasma_tx.specs.declared.links.Link.{Link}
-use Rattle.plasma_tx.specs.declared.links.Links.{Links}
-use Rattle.plasma_tx.specs.declared.call.RootCall.{RootCall}
-use Rattle.plasma_tx.specs.Links.{tip_of}
-use Rattle.plasma_tx.specs.Spelling.{body_text}
-use Rattle.plasma_tx.proofs.Names.{some_same}
-use Rattle.plasma_tx.specs.Shown.{tests_by}
-use Rattle.coin_history.specs.declared.bundle.Bundle.{Bundle}
-use Rattle.coin_history.specs.declared.refusal.HistoryRefusal.{HistoryRefusal}
-use Rattle.coin_history.specs.Checking.{absence_of}
-use Rattle.coin_history.proofs.HistoryLinks.{tip_from, tip-is}
-use Rattle.wallet_core.specs.declared.notes.LeafRecord.{LeafRecord}
-use Rattle.wallet_core.specs.declared.notes.Notes.{Notes}
-use Rattle.wallet_core.specs.declared.coin_state.CoinState.{CoinState}
-use Rattle.wallet_core.specs.declared.coin_state.CoinState.TheVariants.{Nothing, Sending, Leaving, Held}
-use Rattle.wallet_core.specs.State.{spends_tip}
-use Rattle.node_rules.specs.declared.answers.Reclaimed.{Reclaimed}
+use Rattle.node_rules.proofs.Words.{◌≡◌, ◌≢◌, ◌==◌, map, ℕ, ◌<◌, ◌&&◌, Bool, true, false, List, [], ◌∷◌, length, Option, Some, None, Ok, Err, refl, arith, Result, option_map_or, or_parts, eq-eqb, false≢true, and_parts, and_from, leb-false, common_steps, first_cause, leaf_count, binding_record, is_marked, marker, messages_of, MayBind, Owner, Link, Links, RootCall, tip_of, body_text, some_same, Bundle, HistoryRefusal, tip_from, tip-is, LeafRecord, Notes, CoinState, Nothing, Sending, Leaving, Held, spends_tip, Reclaimed, kept_of, Accepts, LeavesWith, Reclaims, note_text, leaves_in, may_reclaim, sent_body}
 use Rattle.node_rules.specs.declared.refusal.WalletRefusal.{WalletRefusal}
-use Rattle.node_rules.specs.declared.refusal.WalletRefusal.TheVariants.{KeySpent, NotYet}
-use Rattle.node_rules.specs.Kept.{kept_of}
-use Rattle.node_rules.specs.WalletRecords.{Accepts, LeavesWith, Reclaims, note_text, leaves_in, may_reclaim}
-use Rattle.node_rules.specs.Wallet.{WalletRecords, WalletEffect, answers, unless, who, accept_causes, accept_taken, accept_by, used, send_causes, send_from, leave_from, last_of, reclaim_shown, reclaim_last, reclaim_from, reclaim_by, migrate_effect}
-use Rattle.node_rules.specs.WalletCommandLaws.{sent_body}
+use Rattle.node_rules.specs.Wallet.{WalletRecords, WalletEffect, unless, who, accept_causes, accept_taken, accept_by, send_causes, send_from, leave_from, last_of, reclaim_shown, reclaim_last, reclaim_from, reclaim_by, migrate_effect}
 use Rattle.node_rules.proofs.Bodies.{text-long}
 
 -- ---- causes
@@ -109,9 +80,6 @@ module _ (wallet : WalletRecords) (log : List RootCall) (coin : ℕ) (to : Owner
   pub send-note : (last : Option ℕ) (state : CoinState) → (send_from wallet log coin to last state).note ≡ None
   send-note last state = grind (arith, common_steps, no_note) steps 20000
 
-  abbrev key_spent : Bool × WalletRefusal
-  key_spent = (nat_le (leaf_count (who wallet).types) (used wallet), KeySpent (used wallet))
-
   -- a message that isn't refused may be bound, and there is a leaf for it
   pub send-may : (tip : ℕ) (last : Option ℕ) → length (who wallet).tag ≡ 32 → length to.key ≡ 56
       → first_cause (send_causes wallet log last) ≡ None
@@ -141,13 +109,6 @@ TakesBack taken body effect = (taken_text taken ≡ body) × (effect.answer ≡ 
 shown-note : (log : List RootCall) (taken : Reclaimed) (shown : Result Unit HistoryRefusal) (body : List ℕ)
     → (reclaim_shown log taken shown).note ≡ Some body → TakesBack taken body (reclaim_shown log taken shown)
 shown-note log taken shown body is = grind (arith, common_steps, some_same) steps 20000
-
--- what is done where the last block is still to come, or has passed
-abbrev reclaim_late : (List ℕ → List ℕ) → List RootCall → Bundle → Reclaimed → ℕ → Bool
-    → WalletEffect (Result Reclaimed WalletRefusal)
-reclaim_late dig log bundle taken last late =
-    if late then answers (Err (NotYet last))
-    else reclaim_shown log taken (absence_of (tests_by dig) log taken.tip last bundle)
 
 last-note : (dig : List ℕ → List ℕ) (log : List RootCall) (bundle : Bundle) (taken : Reclaimed) (found : Option ℕ)
     (body : List ℕ) → (reclaim_last dig log bundle taken found).note ≡ Some body

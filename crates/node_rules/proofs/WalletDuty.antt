@@ -1,16 +1,7 @@
 -- What a wallet answers is due for the coins that it holds or leaves with.
-use Rattle.std.proofs.Common.{◌≡◌, ℕ, List, [], ◌∷◌, ◌++◌, Option, refl, arith}
-use Rattle.std.specs.List.{filter_map, flat_map, cons_option, range_with_len}
-use Rattle.std.specs.Option.{option_map, option_map_or}
-use Rattle.std.proofs.lemmas.Grind.{common_steps}
-use Rattle.plasma_tx.specs.declared.links.Links.{Links}
-use Rattle.plasma_tx.specs.declared.call.RootCall.{RootCall}
-use Rattle.plasma_tx.specs.Views.{coins}
+use Rattle.node_rules.proofs.Words.{◌≡◌, ℕ, List, [], ◌∷◌, ◌++◌, Option, refl, arith, filter_map, flat_map, cons_option, range_with_len, option_map, option_map_or, common_steps, Links, RootCall, coins, due_of, due_calls, CoinState, guard_in, WalletsDoTheirDuty}
 use Rattle.watch_duty.specs.declared.guard.Guard.{Guard}
-use Rattle.watch_duty.specs.Duty.{due_of, due_calls}
-use Rattle.wallet_core.specs.declared.coin_state.CoinState.{CoinState}
 use Rattle.node_rules.specs.Wallet.{WalletRecords, who, coin_state, due_in, watch_answer}
-use Rattle.node_rules.specs.WalletCommandLaws.{guard_in, WalletsDoTheirDuty}
 
 module _ (dig : List ℕ → List ℕ) (wallet : WalletRecords) (log : List RootCall) where
   abbrev guard_of_coin : ℕ → Option Guard

@@ -1,27 +1,7 @@
 -- A wallet's records with one more.
-use Rattle.std.proofs.Common.{◌≡◌, ℕ, zero, suc, ◌&&◌, ◌||◌, cond, Bool, true, false, List, [], ◌∷◌, ◌++◌, map, drop, Option, Some, is_ok, Ok, refl, ap, ◌∙◌, arith}
-use Rattle.std.specs.Prelude.{Result, reverse, slice_get}
-use Rattle.std.specs.List.{filter_map, cons_option, list_all}
-use Rattle.std.specs.Option.{option_map_or}
+use Rattle.node_rules.proofs.Words.{◌≡◌, ℕ, zero, suc, ◌&&◌, ◌||◌, cond, Bool, true, false, List, [], ◌∷◌, ◌++◌, map, drop, Option, Some, is_ok, Ok, refl, ap, ◌∙◌, arith, Result, reverse, slice_get, filter_map, cons_option, list_all, option_map_or, and_parts, and_from, false≢true, map-append, drop_at, reverse-append, list_all-append, common_steps, are_of, may_follow, notes_follow, binding_record, is_marked, marker, messages_of, leaf_records_of, may_follow_leaf, may_follow_of, MayBind, all_same, one_more, binding-messages, marker-messages, Owner, body_at_start, Bundle, LeafRecord, owner_of, Note, Accepts, LeavesWith, Reclaims, note_in, tag_in, wallet_kinds, who_is, notes_of, accepted_of, coin_tip, state_notes, is_body, leaves_in, is_bound_note, are_bound_notes, WalletRecords, who, noted, leaves_of, are_bound, is_wallet, is_bound_record, AddsNote}
 use Rattle.std.specs.Ordering.{nat_cmp}
 use Rattle.std.specs.BTreeSet.{insert_key}
-use Rattle.std.proofs.lemmas.Bool.{and_parts, and_from, false≢true}
-use Rattle.std.proofs.lemmas.List.{map-append, drop_at, reverse-append}
-use Rattle.std.proofs.lemmas.List.Folds.{list_all-append}
-use Rattle.std.proofs.lemmas.Grind.{common_steps}
-use Rattle.node_journal.specs.Role.{are_of, may_follow}
-use Rattle.node_journal.proofs.Roles.{notes_follow}
-use Rattle.leaf_journal.specs.Records.{binding_record, is_marked, marker, messages_of, leaf_records_of, may_follow as may_follow_leaf, may_follow_of, MayBind}
-use Rattle.leaf_journal.proofs.Form.{all_same, one_more}
-use Rattle.leaf_journal.proofs.Binding.{binding-messages, marker-messages}
-use Rattle.plasma_tx.specs.declared.owner.Owner.{Owner}
-use Rattle.plasma_tx.specs.Spelling.{body_at_start}
-use Rattle.coin_history.specs.declared.bundle.Bundle.{Bundle}
-use Rattle.wallet_core.specs.declared.notes.LeafRecord.{LeafRecord}
-use Rattle.node_rules.specs.WalletRecords.{owner_of, Note, Accepts, LeavesWith, Reclaims, note_in, tag_in, wallet_kinds, who_is, notes_of, accepted_of, coin_tip, state_notes, is_body, leaves_in, is_bound_note, are_bound_notes}
-use Rattle.node_rules.specs.Wallet.{WalletRecords, who, noted}
-use Rattle.node_rules.specs.WalletOpening.{leaves_of, are_bound, is_wallet, is_bound_record}
-use Rattle.node_rules.specs.WalletLaws.{AddsNote}
 use Rattle.node_rules.proofs.OneMore.{reverse-grow}
 
 -- ---- notes

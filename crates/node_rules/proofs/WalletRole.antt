@@ -1,36 +1,6 @@
 -- The records of a wallet stay a wallet's, and what a command added is read as it.
-use Rattle.std.proofs.Common.{◌≡◌, ◌≢◌, ℕ, ◌^◌, ◌<◌, true, List, [], ◌∷◌, ◌++◌, length, Option, Some, None, Ok, Err, inl, inr, refl, sym, ap, ◌∙◌, subst, append-nil, arith}
-use Rattle.std.specs.Prelude.{Result, find, unwrap_or, slice_get}
-use Rattle.std.specs.Option.{option_map_or}
-use Rattle.std.proofs.lemmas.Bool.{and_parts, eqb-true}
-use Rattle.std.proofs.lemmas.Grind.{common_steps}
-use Rattle.leaf_journal.specs.Records.{binding_record, marker, messages_of, may_follow_of, MayBind}
-use Rattle.leaf_journal.proofs.Binding.{binding_follows, binding-messages}
-use Rattle.plasma_tx.specs.declared.owner.Owner.{Owner}
-use Rattle.plasma_tx.specs.declared.body.Body.{Body}
-use Rattle.plasma_tx.specs.declared.links.Links.{Links}
-use Rattle.plasma_tx.specs.declared.call.RootCall.{RootCall}
-use Rattle.plasma_tx.specs.declared.views.CoinView.{CoinView}
-use Rattle.plasma_tx.specs.Spelling.{AreBytes, IsBody, body_text, body_at_start, number_text, number_at}
-use Rattle.plasma_tx.specs.Views.{coin_at}
-use Rattle.coin_history.specs.declared.bundle.Bundle.{Bundle}
-use Rattle.coin_history.specs.declared.refusal.HistoryRefusal.{HistoryRefusal}
-use Rattle.coin_history.specs.Bundles.{bundle_in}
-use Rattle.coin_history.specs.History.{links_of}
-use Rattle.coin_history.proofs.BundleLaws.{text-bundle_in}
-use Rattle.wallet_core.specs.declared.notes.LeafRecord.{LeafRecord}
-use Rattle.wallet_core.specs.declared.coin_state.CoinState.TheVariants.{Sending, Leaving, Held}
-use Rattle.wallet_core.specs.State.{sends_by}
-use Rattle.wallet_core.specs.Laws.{IsTip}
+use Rattle.node_rules.proofs.Words.{◌≡◌, ◌≢◌, ℕ, ◌^◌, ◌<◌, true, List, [], ◌∷◌, ◌++◌, length, Option, Some, None, Ok, Err, inl, inr, refl, sym, ap, ◌∙◌, subst, append-nil, arith, Result, find, unwrap_or, slice_get, option_map_or, and_parts, eqb-true, common_steps, binding_record, marker, messages_of, may_follow_of, MayBind, binding_follows, binding-messages, Owner, Body, Links, RootCall, CoinView, AreBytes, IsBody, body_text, body_at_start, number_text, number_at, coin_at, Bundle, HistoryRefusal, bundle_in, links_of, text-bundle_in, LeafRecord, Sending, Leaving, Held, sends_by, IsTip, Reclaimed, chain_of, kept_of, links_handed, IsReadBack, is_of, Accepts, LeavesWith, Reclaims, note_text, note_in, is_body, leaves_in, is_bound_note, WalletRecords, who, noted, coin_state, kept_at, links_at, accept_effect, send_effect, leave_effect, reclaim_effect, reclaim_by, migrate_effect, leaves_of, is_wallet, with_more, FitWords, AcceptsKeepTheRole, SendsKeepTheRole, LeavesKeepTheRole, ReclaimsKeepTheRole, MigrationsKeepTheRole, AddsAccepted, AcceptsAddTheirNotes, sent_body, BindsBody, AddsSent, SendsAddTheirLeaves, AddsLeaving, LeavesAddTheirNotes, AddsReclaimed, ReclaimsAddTheirNotes, AddsMarker, MigrationsAddTheMarker, LeavesAreAnswered}
 use Rattle.wallet_core.proofs.StateLaws.{sending_is, leaving_is, held_is}
-use Rattle.node_rules.specs.declared.answers.Reclaimed.{Reclaimed}
-use Rattle.node_rules.specs.Kept.{chain_of, kept_of, links_handed}
-use Rattle.node_rules.specs.Laws.{IsReadBack}
-use Rattle.node_rules.specs.Watcher.{is_of}
-use Rattle.node_rules.specs.WalletRecords.{Accepts, LeavesWith, Reclaims, note_text, note_in, is_body, leaves_in, is_bound_note}
-use Rattle.node_rules.specs.Wallet.{WalletRecords, who, noted, coin_state, kept_at, links_at, accept_effect, send_effect, leave_effect, reclaim_effect, reclaim_by, migrate_effect}
-use Rattle.node_rules.specs.WalletOpening.{leaves_of, is_wallet}
-use Rattle.node_rules.specs.WalletCommandLaws.{with_more, FitWords, AcceptsKeepTheRole, SendsKeepTheRole, LeavesKeepTheRole, ReclaimsKeepTheRole, MigrationsKeepTheRole, AddsAccepted, AcceptsAddTheirNotes, sent_body, BindsBody, AddsSent, SendsAddTheirLeaves, AddsLeaving, LeavesAddTheirNotes, AddsReclaimed, ReclaimsAddTheirNotes, AddsMarker, MigrationsAddTheMarker, LeavesAreAnswered}
 use Rattle.node_rules.proofs.KeptTexts.{handed-back}
 use Rattle.node_rules.proofs.OneMore.{if_some-each}
 use Rattle.node_rules.proofs.WalletTexts.{note_in-text, leaves-some}

@@ -1,25 +1,9 @@
 -- A wallet's identity and notes are read as they are written, and have one spelling.
-use Rattle.std.proofs.Common.{◌≡◌, ℕ, ◌^◌, ◌<◌, ◌==◌, ◌&&◌, ◌||◌, not, Bool, true, false, if◌then◌else◌, List, [], ◌∷◌, ◌++◌, Option, Some, None, Ok, length, drop, refl, sym, ap, ◌∙◌, subst, inl, inr, arith}
-use Rattle.std.specs.List.{slice_range}
-use Rattle.std.proofs.lemmas.Bool.{cases_Bool, and_parts, and_from, or_cases, eqb-true, eq-eqb}
-use Rattle.std.proofs.lemmas.List.{length-append, take_all, take-append-drop, length-drop, drop_at}
-use Rattle.std.proofs.lemmas.List.Elements.{All-tail, All-drop}
-use Rattle.std.proofs.lemmas.Grind.{common_steps}
-use Rattle.lms_sign.specs.declared.types.LmsTypes.{LmsTypes}
-use Rattle.lms_sign.specs.Types.{is_supported}
-use Rattle.plasma_tx.specs.declared.links.Links.{Links}
-use Rattle.plasma_tx.specs.declared.call.RootCall.{RootCall}
-use Rattle.plasma_tx.specs.Spelling.{AreBytes, number_text, number_at}
-use Rattle.plasma_tx.proofs.Names.{some_same}
-use Rattle.plasma_tx.proofs.Parts.{range-front, range-back, range-join, length-range, bytes-range, number-below, short_number-below}
-use Rattle.coin_history.specs.declared.bundle.Bundle.{Bundle}
-use Rattle.coin_history.specs.Bundles.{bundle_text}
-use Rattle.node_rules.specs.declared.identity.WalletIdentity.{WalletIdentity}
-use Rattle.node_rules.specs.Kept.{kept_of, kept_in, links_handed}
+use Rattle.node_rules.proofs.Words.{◌≡◌, ℕ, ◌^◌, ◌<◌, ◌==◌, ◌&&◌, ◌||◌, not, Bool, true, false, if◌then◌else◌, List, [], ◌∷◌, ◌++◌, Option, Some, None, length, drop, refl, sym, ap, ◌∙◌, subst, inl, inr, arith, slice_range, cases_Bool, and_parts, and_from, or_cases, eqb-true, eq-eqb, length-append, take_all, take-append-drop, length-drop, drop_at, All-tail, All-drop, common_steps, LmsTypes, is_supported, AreBytes, number_text, number_at, some_same, range-front, range-back, range-join, length-range, bytes-range, number-below, short_number-below, Bundle, bundle_text, WalletIdentity, kept_in}
 use Rattle.node_rules.specs.WalletRecords.{short_text, short_at, is_first, common_text, identity_text, identity_of, types_in, may_be_second, identity_in, Note, Accepts, LeavesWith, Reclaims, note_text, accepts, note_in}
 use Rattle.node_rules.specs.WalletLaws.{IsIdentity, IsNote, IdentitiesAreReadBack, IdentitiesHaveOneSpelling, NotesAreReadBack, NotesHaveOneSpelling}
 use Rattle.node_rules.proofs.NumberTexts.{pair-first, pair-second, first-read, second-read, two-bytes, tag-read, account-read, tag-bytes, short-in, short-bytes}
-use Rattle.node_rules.proofs.KeptTexts.{kept_in-text, kept_in-spelled, handed-back}
+use Rattle.node_rules.proofs.KeptTexts.{kept_in-text, kept_in-spelled}
 
 -- ---- types
 
@@ -284,10 +268,3 @@ note_in-spelled dig tag (mark ∷ bytes) note small h =
         ]
       ]
     ]
-
--- the record of accepted links that were handed in is read back
-pub handed-read : (dig : List ℕ → List ℕ) (tag : List ℕ) (log : List RootCall) (bytes : List ℕ) (links : Links)
-    → AreBytes bytes → links_handed dig tag log bytes ≡ Ok links
-    → note_in dig tag (note_text (Accepts (kept_of links))) ≡ Some (Accepts (kept_of links))
-handed-read dig tag log bytes links small is =
-    note_in-text dig tag (Accepts (kept_of links)) (handed-back dig tag log bytes links small is).is_kept

@@ -1,36 +1,7 @@
 -- The tag, the tips and the leaves of a wallet have their sizes.
-use Rattle.std.proofs.Common.{◌≡◌, ℕ, ◌^◌, ◌<◌, ◌≤◌, ◌==◌, ◌&&◌, Bool, true, false, if◌then◌else◌, List, [], ◌∷◌, ◌++◌, length, drop, filter, Option, Some, None, refl, subst, inl, inr, arith}
-use Rattle.std.specs.Prelude.{slice_get}
-use Rattle.std.specs.List.{All, filter_map}
-use Rattle.std.proofs.lemmas.Bool.{cases_Bool, and_parts, eqb-true, false≢true}
-use Rattle.std.proofs.lemmas.List.{length-map, length-drop}
-use Rattle.std.proofs.lemmas.List.Elements.{All-nil, All-head, All-tail, All-append, All-push, All-drop, All-filter, All-map, All-contains}
+use Rattle.node_rules.proofs.Words.{◌≡◌, ℕ, ◌^◌, ◌<◌, ◌≤◌, ◌==◌, ◌&&◌, Bool, true, false, if◌then◌else◌, List, [], ◌∷◌, ◌++◌, length, drop, filter, Option, Some, None, refl, subst, inl, inr, arith, slice_get, All, filter_map, cases_Bool, and_parts, eqb-true, false≢true, length-map, length-drop, All-nil, All-head, All-tail, All-append, All-push, All-drop, All-filter, All-map, All-contains, common_steps, are_of, LmsTypes, height, leaf_count, are_few, Owner, RootCall, CoinView, AreBytes, blocks, coin_at, some_same, length-range, deposit-le, CoinTip, LeafRecord, Notes, is_owner, own_deposit, noted_tips, IsTip, WalletIdentity, identity_of, types_in, may_be_second, identity_in, Note, Accepts, LeavesWith, Reclaims, note_in, wallet_kinds, who_is, notes_of, coin_tip, state_notes, owner_of, leaves_in, WalletRecords, who, noted, is_wallet, IsNote, FitWords}
 use Rattle.std.proofs.lemmas.Option.{slice_get_within}
-use Rattle.std.proofs.lemmas.Grind.{common_steps}
-use Rattle.node_journal.specs.Role.{are_of}
-use Rattle.lms_sign.specs.declared.types.LmsTypes.{LmsTypes}
-use Rattle.lms_sign.specs.Types.{height, leaf_count}
-use Rattle.leaf_journal.proofs.Form.{are_few}
 use Rattle.leaf_journal.proofs.KindRecords.{form_of}
-use Rattle.plasma_tx.specs.declared.owner.Owner.{Owner}
-use Rattle.plasma_tx.specs.declared.call.RootCall.{RootCall}
-use Rattle.plasma_tx.specs.declared.views.CoinView.{CoinView}
-use Rattle.plasma_tx.specs.Spelling.{AreBytes}
-use Rattle.plasma_tx.specs.Views.{blocks, coin_at}
-use Rattle.plasma_tx.proofs.Names.{some_same}
-use Rattle.plasma_tx.proofs.Parts.{length-range}
-use Rattle.coin_history.proofs.HistoryGrow.{deposit-le}
-use Rattle.wallet_core.specs.declared.notes.CoinTip.{CoinTip}
-use Rattle.wallet_core.specs.declared.notes.LeafRecord.{LeafRecord}
-use Rattle.wallet_core.specs.declared.notes.Notes.{Notes}
-use Rattle.wallet_core.specs.State.{is_owner, own_deposit, noted_tips}
-use Rattle.wallet_core.specs.Laws.{IsTip}
-use Rattle.node_rules.specs.declared.identity.WalletIdentity.{WalletIdentity}
-use Rattle.node_rules.specs.WalletRecords.{identity_of, types_in, may_be_second, identity_in, Note, Accepts, LeavesWith, Reclaims, note_in, wallet_kinds, who_is, notes_of, coin_tip, state_notes, owner_of, leaves_in}
-use Rattle.node_rules.specs.Wallet.{WalletRecords, who, noted}
-use Rattle.node_rules.specs.WalletOpening.{is_wallet}
-use Rattle.node_rules.specs.WalletLaws.{IsNote}
-use Rattle.node_rules.specs.WalletCommandLaws.{FitWords}
 use Rattle.node_rules.proofs.OneMore.{All-reverse, All-filter_map}
 use Rattle.node_rules.proofs.WalletTexts.{note_in-spelled}
 use Rattle.node_rules.proofs.WalletGrow.{wallet-parts}

@@ -1,24 +1,8 @@
 -- What a watcher's command adds to its records, and how they are read then.
-use Rattle.std.proofs.Common.{◌≡◌, ℕ, Bool, true, false, if◌then◌else◌, List, [], ◌∷◌, ◌++◌, Option, Some, None, Ok, Err, refl, sym, ap, ◌∙◌, arith}
-use Rattle.std.specs.Prelude.{Result}
-use Rattle.std.specs.List.{flat_map, cons_option, list_any}
-use Rattle.std.proofs.lemmas.Bool.{false≢true}
-use Rattle.std.proofs.lemmas.Grind.{common_steps}
-use Rattle.node_journal.specs.Effect.{Effect, unless, only}
-use Rattle.node_journal.specs.Role.{are_of, may_follow}
-use Rattle.node_journal.proofs.Roles.{notes_follow}
-use Rattle.plasma_tx.specs.declared.links.Links.{Links}
-use Rattle.plasma_tx.specs.declared.call.RootCall.{RootCall}
-use Rattle.plasma_tx.specs.Spelling.{AreBytes, number_text, number_at}
-use Rattle.plasma_tx.proofs.Names.{some_same}
-use Rattle.coin_history.specs.declared.bundle.Bundle.{Bundle}
-use Rattle.coin_history.specs.declared.refusal.HistoryRefusal.{HistoryRefusal}
-use Rattle.watch_duty.specs.Duty.{due_of, due_calls}
+use Rattle.node_rules.proofs.Words.{◌≡◌, ℕ, Bool, true, false, if◌then◌else◌, List, [], ◌∷◌, ◌++◌, Option, Some, None, Ok, Err, refl, sym, ap, ◌∙◌, arith, Result, flat_map, cons_option, list_any, false≢true, common_steps, Effect, unless, only, are_of, may_follow, notes_follow, Links, RootCall, AreBytes, number_text, number_at, some_same, Bundle, HistoryRefusal, due_of, due_calls, kept_of, links_handed, IsReadBack}
 use Rattle.node_rules.specs.declared.answers.Accepted.{Accepted}
 use Rattle.node_rules.specs.declared.refusal.WatcherRefusal.{WatcherRefusal}
 use Rattle.node_rules.specs.declared.refusal.WatcherRefusal.TheVariants.{NoGuard}
-use Rattle.node_rules.specs.Kept.{kept_of, links_handed}
-use Rattle.node_rules.specs.Laws.{IsReadBack}
 use Rattle.node_rules.specs.Watcher.{Note, Guarded, Released, note_text, note_in, tag_in, watcher_kinds, who_is, notes_of, is_of, guards_in, guard_by, guard_effect, release_effect, due_for_kept, watch_answer}
 use Rattle.node_rules.specs.WatcherLaws.{KeepsRole, CommandsKeepTheRole, AddsNote, AddsGuard, CommandsAddTheirNotes, guards_shown, WatchersDoTheirDuty}
 use Rattle.node_rules.proofs.KeptTexts.{handed-back}

@@ -1,22 +1,9 @@
 -- A watcher's identity and notes are read as they are written, and have one spelling.
-use Rattle.std.proofs.Common.{◌≡◌, ℕ, ◌<◌, ◌==◌, ◌&&◌, List, [], ◌∷◌, ◌++◌, Option, Some, None, Ok, length, refl, sym, ap, ◌∙◌, subst, inl, inr, append-nil, arith}
-use Rattle.std.specs.List.{slice_range}
-use Rattle.std.proofs.lemmas.Bool.{cases_Bool, and_parts, eqb-true, eq-eqb}
-use Rattle.std.proofs.lemmas.List.{length-append, take_all}
-use Rattle.std.proofs.lemmas.List.Elements.{All-tail}
-use Rattle.std.proofs.lemmas.Grind.{common_steps}
-use Rattle.plasma_tx.specs.declared.links.Links.{Links}
-use Rattle.plasma_tx.specs.declared.call.RootCall.{RootCall}
-use Rattle.plasma_tx.specs.Spelling.{AreBytes, number_text, number_at}
-use Rattle.plasma_tx.proofs.Names.{some_same}
-use Rattle.plasma_tx.proofs.Parts.{length-range, bytes-range, number-below}
-use Rattle.coin_history.specs.declared.bundle.Bundle.{Bundle}
-use Rattle.coin_history.specs.Bundles.{bundle_text}
-use Rattle.node_rules.specs.Kept.{kept_of, kept_in, links_handed}
+use Rattle.node_rules.proofs.Words.{◌≡◌, ℕ, ◌<◌, ◌==◌, ◌&&◌, List, [], ◌∷◌, ◌++◌, Option, Some, None, length, refl, sym, ap, ◌∙◌, subst, inl, inr, append-nil, arith, slice_range, cases_Bool, and_parts, eqb-true, eq-eqb, length-append, take_all, All-tail, common_steps, AreBytes, number_text, number_at, some_same, length-range, bytes-range, number-below, Bundle, bundle_text, kept_in}
 use Rattle.node_rules.specs.Watcher.{WatcherIdentity, identity_text, identity_in, Note, Guarded, Released, note_text, guarded, note_in}
 use Rattle.node_rules.specs.WatcherLaws.{IsIdentity, IsNote, IdentitiesAreReadBack, IdentitiesHaveOneSpelling, NotesAreReadBack, NotesHaveOneSpelling}
 use Rattle.node_rules.proofs.NumberTexts.{pair-first, pair-second, two-bytes, tag-read, account-read, tag-bytes}
-use Rattle.node_rules.proofs.KeptTexts.{kept_in-text, kept_in-spelled, handed-back}
+use Rattle.node_rules.proofs.KeptTexts.{kept_in-text, kept_in-spelled}
 
 -- ---- the identity
 
@@ -139,10 +126,3 @@ note_in-spelled dig tag (mark ∷ bytes) note small h =
         | inr none ↦ let bad : None ≡ Some note = rw (other, none) at h in absurd (cc bad)
       ]
     ]
-
--- the record of a guard of links that were handed in is read back
-pub handed-read : (dig : List ℕ → List ℕ) (tag : List ℕ) (log : List RootCall) (bytes : List ℕ) (links : Links)
-    → AreBytes bytes → links_handed dig tag log bytes ≡ Ok links
-    → note_in dig tag (note_text (Guarded (kept_of links))) ≡ Some (Guarded (kept_of links))
-handed-read dig tag log bytes links small is =
-    note_in-text dig tag (Guarded (kept_of links)) (handed-back dig tag log bytes links small is).is_kept

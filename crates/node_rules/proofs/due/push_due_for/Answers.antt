@@ -1,5 +1,4 @@
-use Rattle.std.proofs.Common.{List, ◌++◌, sym, ◌∙◌, ap, append-nil}
-use Rattle.plasma_tx.specs.declared.call.RootCall.{RootCall}
+use Rattle.node_rules.proofs.Words.{List, ◌++◌, sym, ◌∙◌, ap, append-nil, RootCall}
 use Rattle.node_rules.proofs.Still.{none_left, due_still}
 use Rattle.node_rules.proofs.due.push_due_for.Goals as goal
 

@@ -1,8 +1,5 @@
-use Rattle.std.proofs.Common.{◌≡◌, ◌<◌, Ok, sym, ◌∙◌, ap, arith}
-use Rattle.std.proofs.lemmas.List.Elements.{All-from_get_or}
-use Rattle.coin_history.specs.Bundles.{bundle_in}
+use Rattle.node_rules.proofs.Words.{◌≡◌, ◌<◌, Ok, sym, ◌∙◌, ap, arith, All-from_get_or, bundle_in, checked_by}
 use Rattle.coin_history.proofs.FirstItems.{has-first_item, looked-some}
-use Rattle.node_rules.specs.Kept.{checked_by}
 use Rattle.node_rules.proofs.KeptTexts.{handed-back}
 use Rattle.node_rules.proofs.handed.links_handed.Goals as goal
 

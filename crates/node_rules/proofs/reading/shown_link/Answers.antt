@@ -1,6 +1,4 @@
-use Rattle.std.proofs.Common.{Option, Some, sym, ◌∙◌, ap}
-use Rattle.plasma_tx.specs.declared.opening.RawOpening.{RawOpening}
-use Rattle.plasma_tx.specs.declared.links.Link.{Link}
+use Rattle.node_rules.proofs.Words.{Option, Some, sym, ◌∙◌, ap, RawOpening, Link}
 use Rattle.node_rules.proofs.ShownCoins.{linked, link-read}
 use Rattle.node_rules.proofs.reading.shown_link.Goals as goal
 
