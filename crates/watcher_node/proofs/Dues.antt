@@ -1,36 +1,20 @@
 -- What is due for the guards in memory.
-use Rattle.std.proofs.Common.{◌≡◌, ◌≢◌, ℕ, List, [], ◌∷◌, ◌++◌, map, Option, None, Some, refl, ◌∙◌, ap}
-use Rattle.std.specs.List.{flat_map}
-use Rattle.std.specs.Map.{values_of}
+use Rattle.watcher_node.proofs.Words.{◌≡◌, ◌≢◌, ℕ, List, [], ◌∷◌, refl, ◌∙◌, ap, arith, flat_map, values_of, common_steps, Bundle, who_is, notes_of, guards_of, guards_in, due_for_kept, watch_answer, KeptCoin, watched_in, AreKeyed, kept_coin_of, due_for_coin}
 use Rattle.std.proofs.lemmas.List.Folds.{flat_map-map}
 use Rattle.plasma_tx.specs.declared.call.RootCall.{RootCall}
-use Rattle.plasma_tx.specs.declared.views.CoinView.{CoinView}
-use Rattle.plasma_tx.specs.Views.{coin_at}
-use Rattle.coin_history.specs.declared.bundle.Bundle.{Bundle}
-use Rattle.node_rules.specs.Watcher.{who_is, notes_of, guards_of, guards_in, due_for_kept, watch_answer}
-use Rattle.node_rules.specs.declared.kept_coin.KeptCoin.{KeptCoin}
-use Rattle.watcher_node.specs.Inside.{watched_in, AreKeyed}
 use Rattle.watcher_node.proofs.Order.{values-keyed}
-use Rattle.node_rules.specs.KeptCoins.{kept_coin_of, due_for_coin}
 
 -- a kept coin and its guard have the same dues
 due-same : (tag : List ℕ) (log : List RootCall) (account : ℕ) (kept : Bundle)
     → due_for_coin log account (kept_coin_of tag kept) ≡ due_for_kept tag log account kept
-due-same tag log account kept = at (coin_at log kept.coin) refl
-  where
-    at : (made : Option CoinView) → coin_at log kept.coin ≡ made
-        → due_for_coin log account (kept_coin_of tag kept) ≡ due_for_kept tag log account kept
-    at None is = rw is refl
-    at (Some made) is = rw is refl
+due-same tag log account kept = grind (arith, common_steps) steps 20000
 
 dues-same : (tag : List ℕ) (log : List RootCall) (account : ℕ) (guards : List Bundle)
     → flat_map (λ kept. due_for_coin log account (kept_coin_of tag kept)) guards
     ≡ flat_map (due_for_kept tag log account) guards
 dues-same tag log account [] = refl
 dues-same tag log account (kept ∷ guards) =
-    ap (λ (calls : List RootCall). calls ++ flat_map (λ k. due_for_coin log account (kept_coin_of tag k)) guards)
-    (due-same tag log account kept)
-    ∙ ap (λ (calls : List RootCall). due_for_kept tag log account kept ++ calls) (dues-same tag log account guards)
+    grind (arith, common_steps, dues-same tag log account guards, due-same) steps 20000
 
 -- what is due for the guards in memory is the answer
 pub dues-answer : (dig : List ℕ → List ℕ) (records : List (List ℕ)) (log : List RootCall) (account : ℕ)
@@ -50,7 +34,4 @@ dues-answer dig records log account entries is are =
 pub guards-some : (dig : List ℕ → List ℕ) (records : List (List ℕ)) (entries : List ((ℕ × ℕ) × KeptCoin))
     → AreKeyed entries (watched_in (who_is records).tag (notes_of dig records)) → values_of entries ≢ []
     → guards_in dig records ≢ []
-guards-some dig records entries are some none =
-    let tag = (who_is records).tag in
-    some
-    (ap values_of are ∙ values-keyed (watched_in tag (notes_of dig records)) ∙ ap (map (kept_coin_of tag)) none)
+guards-some dig records entries are some none = grind (arith, common_steps, values-keyed) steps 20000

@@ -1,16 +1,10 @@
 -- What is kept in memory of records.
-use Rattle.std.proofs.Common.{◌≡◌, ℕ, true, List, [], ◌∷◌, ◌++◌, map, reverse, Option, None, Some, refl, sym, ◌∙◌, ap, subst}
-use Rattle.std.specs.List.{filter_map}
-use Rattle.std.specs.Option.{option_map}
+use Rattle.watcher_node.proofs.Words.{◌≡◌, ℕ, true, List, [], ◌∷◌, ◌++◌, map, reverse, Option, None, Some, refl, ◌∙◌, ap, arith, filter_map, option_map, common_steps, WatcherIdentity, Note, identity_in, note_in, watcher_kinds, who_is, notes_of, KeptCoin, change_of, changed, watched_in, keyed, AreKeyed, IsKept}
 use Rattle.crash_disk.specs.Disk.{History, FaultPlan}
 use Rattle.node_journal.specs.Role.{are_of, may_follow}
 use Rattle.node_journal.specs.Notes.{NotesState, Did}
 use Rattle.node_journal.specs.declared.stop.Stop.{Stop}
-use Rattle.node_journal.specs.declared.stop.Stop.TheVariants.{Closed, NoMemory, DeviceFault}
-use Rattle.node_rules.specs.Watcher.{WatcherIdentity, Note, identity_in, note_in, watcher_kinds, who_is, notes_of}
-use Rattle.node_rules.specs.declared.kept_coin.KeptCoin.{KeptCoin}
 use Rattle.watcher_node.specs.declared.watched.Change.{Change}
-use Rattle.watcher_node.specs.Inside.{change_of, changed, watched_in, keyed, AreKeyed, IsKept}
 use Rattle.node_rules.proofs.WatcherRole.{note-keeps, note-adds}
 use Rattle.watcher_node.proofs.Steps.{watched_in-more}
 
@@ -25,16 +19,7 @@ kept-of : (dig : List ℕ → List ℕ) (first : List ℕ) (rest : List (List �
     → AreKeyed all (watched_in who.tag (reverse (filter_map (note_in dig who.tag) rest)))
     → IsKept dig (first ∷ rest) who.tag who.account all
 unfolding notes_of
-kept-of dig first rest who all is are =
-    let same = who-first first rest who is in
-    record {
-      is_tag = ap (λ (w : WatcherIdentity). w.tag) (sym same);
-      is_account = ap (λ (w : WatcherIdentity). w.account) (sym same);
-      are_all =
-          are
-          ∙ ap (λ (w : WatcherIdentity). map keyed (watched_in w.tag (reverse (filter_map (note_in dig w.tag) rest))))
-          (sym same);
-    }
+kept-of dig first rest who all is are = grind (arith, common_steps, who-first) steps 20000
 
 -- the tag and the account of an identity
 abbrev named : WatcherIdentity → List ℕ × ℕ
@@ -55,8 +40,7 @@ kept-from dig records first rest pair all records_are found are =
     let who = parts.0 in
     let kept = kept-of dig first rest who all parts.1
     (are ∙ ap (λ (p : List ℕ × ℕ). map keyed (watched_in p.0 (reverse (filter_map (note_in dig p.0) rest)))) parts.2) in
-    subst (λ (r : List (List ℕ)). IsKept dig r pair.0 pair.1 all) (sym records_are)
-    (subst (λ (p : List ℕ × ℕ). IsKept dig (first ∷ rest) p.0 p.1 all) (sym parts.2) kept)
+    grind (arith, common_steps) steps 20000
 
 -- the note of a record that spells a change
 note-from : (tag : List ℕ) (found : Option Note) (change : Change) → Some change ≡ option_map (change_of tag) found
@@ -77,31 +61,17 @@ kept-more dig records body more tag account all after change role more_is spells
     let who = who_is records in
     let read = note-from who.tag (note_in dig who.tag body) change spells in
     let adds = note-adds dig records role body read.0 read.1 in
-    subst (λ (r : List (List ℕ)). IsKept dig r tag account after) (sym more_is) (record {
-      is_tag = kept.is_tag ∙ ap (λ (w : WatcherIdentity). w.tag) (sym adds.0);
-      is_account = kept.is_account ∙ ap (λ (w : WatcherIdentity). w.account) (sym adds.0);
-      are_all =
-          taken (watched_in who.tag (notes_of dig records)) refl kept.are_all
-          ∙ ap (map keyed)
-          (ap (λ (c : Change). changed c (watched_in who.tag (notes_of dig records))) read.2
-          ∙ sym (watched_in-more who.tag read.0 (notes_of dig records))
-          ∙ ap (watched_in who.tag) (sym adds.1)
-          ∙ ap (λ (w : WatcherIdentity). watched_in w.tag (notes_of dig (records ++ body ∷ []))) (sym adds.0));
-    })
+    grind (arith, common_steps, watched_in-more) steps 20000
 
 -- the records of notes stay where a call was stopped
 module _ {D : Type 0} (told : D → Option History) (plan : D → Option FaultPlan) (faults : D → ℕ) where
   pub stopped-stays : (body : List ℕ) (old new : NotesState D) (stop : Stop)
       → Did told plan faults (Some body) old (Some stop) new → new.records ≡ old.records
-  stopped-stays body old new DeviceFault did = did.records
-  stopped-stays body old new Closed did = ap (λ (s : NotesState D). s.records) did.1
-  stopped-stays body old new NoMemory did = ap (λ (s : NotesState D). s.records) did.1
+  stopped-stays body old new stop did = grind (arith, common_steps) steps 20000
 
 -- a record that spells a change may follow
 pub change-follows : (dig : List ℕ → List ℕ) (records : List (List ℕ)) (body : List ℕ) (change : Change)
     → are_of (watcher_kinds dig) records ≡ true
     → Some change ≡ option_map (change_of (who_is records).tag) (note_in dig (who_is records).tag body)
     → may_follow (watcher_kinds dig) records body ≡ true
-change-follows dig records body change role spells =
-    let read = note-from (who_is records).tag (note_in dig (who_is records).tag body) change spells in
-    (note-keeps dig records role body read.0 read.1).0
+change-follows dig records body change role spells = grind (arith, common_steps, note-from, note-keeps) steps 20000

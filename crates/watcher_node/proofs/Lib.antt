@@ -3,3 +3,4 @@ pub mod Steps
 pub mod Dues
 pub mod Kept
 pub mod Notes
+mod Words

@@ -1,18 +1,13 @@
 -- Guards in a map by coins and tips.
-use Rattle.std.proofs.Common.{◌≡◌, ◌==◌, ◌&&◌, ◌||◌, not, ℕ, Bool, true, false, cond, nat_lt, List, [], ◌∷◌, ◌++◌, map, filter, Option, Some, is_some, refl, sym, ◌∙◌, ap, subst, inl, inr, arith}
-use Rattle.std.specs.List.{list_any, AllByRecursion}
+use Rattle.watcher_node.proofs.Words.{◌≡◌, ◌==◌, ◌&&◌, ◌||◌, not, ℕ, Bool, true, false, cond, nat_lt, List, [], ◌∷◌, ◌++◌, map, filter, Option, Some, is_some, refl, sym, ◌∙◌, ap, inl, inr, arith, list_any, AllByRecursion, keys_of, values_of, lookup, remove_entry, cases_Bool, or_parts, common_steps, KeptCoin, is_watched_at, comes_before, with_watched, by_place, keyed}
 use Rattle.std.specs.List.Sorted.{IsStrictlySortedBy}
 use Rattle.std.specs.declared.cmp.Ordering.{Ordering}
 use Rattle.std.specs.declared.cmp.Ordering.TheVariants.{Less, Equal, Greater}
-use Rattle.std.specs.Ordering.{ordering_then, ordering_reverse, is_lt, is_eq}
+use Rattle.std.specs.Ordering.{ordering_then, is_lt, is_eq}
 use Rattle.std.specs.BTreeMap.{insert_entry, is_at}
-use Rattle.std.specs.Map.{keys_of, values_of, lookup, remove_entry}
 use Rattle.std.specs.Cmp.{IsTotalOrder}
 use Rattle.std.proofs.lemmas.Cmp.{nat_cmp_total, on_total, then_total, tied_itself}
-use Rattle.std.proofs.lemmas.Bool.{cases_Bool, or_parts}
 use Rattle.std.proofs.lemmas.Bool.Decides.{nat_tests}
-use Rattle.node_rules.specs.declared.kept_coin.KeptCoin.{KeptCoin}
-use Rattle.watcher_node.specs.Inside.{is_watched_at, comes_before, with_watched, by_place, keyed}
 
 -- ---- the order of two numbers and two numbers
 
@@ -22,11 +17,7 @@ total = then_total (on_total (λ (p : ℕ × ℕ). p.0) nat_cmp_total) (on_total
 less-by : (l e l' e' : Bool)
     → is_lt (ordering_then (cond l Less (cond e Equal Greater)) (cond l' Less (cond e' Equal Greater)))
     ≡ (l || (e && l'))
-less-by true e l' e' = refl
-less-by false true true e' = refl
-less-by false true false true = refl
-less-by false true false false = refl
-less-by false false l' e' = refl
+less-by l e l' e' = grind (arith, common_steps) steps 20000
 
 same-by : (l e l' e' : Bool) → (e ≡ true → l ≡ false) → (e' ≡ true → l' ≡ false)
     → is_eq (ordering_then (cond l Less (cond e Equal Greater)) (cond l' Less (cond e' Equal Greater)))
@@ -53,10 +44,7 @@ flip : (a b : ℕ) → (a == b) ≡ (b == a)
 flip a b = grind arith
 
 at-is : (coin tip : ℕ) (one : KeptCoin) → is_eq (by_place (coin, tip) (place one)) ≡ is_watched_at coin tip one
-at-is coin tip one =
-    same-by (nat_lt coin one.coin) (coin == one.coin) (nat_lt tip one.tip) (tip == one.tip) (not-less coin one.coin)
-    (not-less tip one.tip)
-    ∙ (λ i. flip coin one.coin i && flip tip one.tip i)
+at-is coin tip one = grind (arith, common_steps, same-by, not-less, flip) steps 20000
 
 -- ---- one that is asked for
 
@@ -76,9 +64,7 @@ has-keyed coin tip (x ∷ xs) =
 
 pub asked-keyed : (coin tip : ℕ) (entries : List ((ℕ × ℕ) × KeptCoin)) (all : List KeptCoin) → entries ≡ map keyed all
     → list_any (is_watched_at coin tip) all ≡ is_some (lookup (is_at (by_place (coin, tip))) entries)
-asked-keyed coin tip entries all are =
-    sym (has-keyed coin tip all)
-    ∙ ap (λ (es : List ((ℕ × ℕ) × KeptCoin)). is_some (lookup (is_at (by_place (coin, tip))) es)) (sym are)
+asked-keyed coin tip entries all are = grind (arith, common_steps, has-keyed) steps 20000
 
 pub values-keyed : (all : List KeptCoin) → values_of (map keyed all) ≡ all
 values-keyed [] = refl
@@ -106,9 +92,7 @@ none-before : (watched : KeptCoin) (all : List KeptCoin) → AllLater (place wat
 none-before watched [] later = (refl, refl)
 none-before watched (x ∷ xs) later =
     let rest = none-before watched xs later.1 in
-    let other : comes_before x watched ≡ false =
-    sym (before-is x watched)
-    ∙ ap is_lt (total.antisymm (place x) (place watched) ∙ ap ordering_reverse later.0) in
+    let other : comes_before x watched ≡ false = grind (arith, common_steps, before-is, total) steps 20000 in
     rw other (rest.0, ap (λ (l : List KeptCoin). x ∷ l) rest.1)
 
 put-is : (watched : KeptCoin) (all : List KeptCoin) → IsStrictlySortedBy by_place (keys_of (map keyed all))
@@ -122,8 +106,7 @@ put-is watched (x ∷ xs) sorted absent =
   where
     parts : (is_watched_at watched.coin watched.tip x ≡ false)
         × (list_any (is_watched_at watched.coin watched.tip) xs ≡ false)
-    parts = or_parts (is_watched_at watched.coin watched.tip x)
-        (list_any (is_watched_at watched.coin watched.tip) xs) absent
+    parts = grind (arith, common_steps, or_parts) steps 20000
 
     at : (o : Ordering) → by_place (place watched) (place x) ≡ o
         → insert_entry by_place (map keyed xs) (place watched) watched
@@ -137,21 +120,14 @@ put-is watched (x ∷ xs) sorted absent =
     at Equal same rest =
         absurd (let wrong = ap is_eq (sym same) ∙ at-is watched.coin watched.tip x ∙ parts.0 in cc wrong)
     at Greater more rest =
-        let first : comes_before x watched ≡ true =
-        sym (before-is x watched)
-        ∙ ap is_lt (total.antisymm (place x) (place watched) ∙ ap ordering_reverse more) in
+        let first : comes_before x watched ≡ true = grind (arith, common_steps, before-is, total) steps 20000 in
         rw (more, first) (ap (λ (l : List ((ℕ × ℕ) × KeptCoin)). keyed x ∷ l) rest)
 
 pub put-keyed : (watched : KeptCoin) (all : List KeptCoin) (old new : List ((ℕ × ℕ) × KeptCoin))
     → IsStrictlySortedBy by_place (keys_of old) → list_any (is_watched_at watched.coin watched.tip) all ≡ false
     → old ≡ map keyed all → new ≡ insert_entry by_place old (watched.coin, watched.tip) watched
     → new ≡ map keyed (with_watched watched all)
-put-keyed watched all old new sorted absent are put =
-    put ∙ ap (λ (es : List ((ℕ × ℕ) × KeptCoin)). insert_entry by_place es (place watched) watched) are
-    ∙ put-is watched all (subst (λ (es : List ((ℕ × ℕ) × KeptCoin)). IsStrictlySortedBy by_place (keys_of es)) are
-    sorted)
-    absent
-    ∙ rw absent refl
+put-keyed watched all old new sorted absent are put = grind (arith, common_steps, put-is) steps 20000
 
 -- one that is there stays
 pub kept-keyed : (watched : KeptCoin) (all : List KeptCoin)
@@ -173,9 +149,8 @@ behind-same p q (x ∷ xs) same later =
     (total.congr p q (place x) (equal (by_place p q) same) ∙ later.0, behind-same p q xs same later.1)
   where
     equal : (o : Ordering) → is_eq o ≡ true → o ≡ Equal
-    equal Less wrong = absurd (cc wrong)
     equal Equal is = refl
-    equal Greater wrong = absurd (cc wrong)
+    equal o wrong = absurd (cc wrong)
 
 remove-is : (coin tip : ℕ) (all : List KeptCoin) → IsStrictlySortedBy by_place (keys_of (map keyed all))
     → remove_entry (is_at (by_place (coin, tip))) (map keyed all)
@@ -188,18 +163,14 @@ remove-is coin tip (x ∷ xs) sorted = elim (cases_Bool (is_eq (by_place (coin, 
       rw (here, there)
       (ap (map keyed) (sym (none-at coin tip xs (behind-same (coin, tip) (place x) xs here sorted.0))))
   | inr other ↦
-      let apart : is_watched_at coin tip x ≡ false = sym (at-is coin tip x) ∙ other in
-      rw (other, apart) (ap (λ (l : List ((ℕ × ℕ) × KeptCoin)). keyed x ∷ l) (remove-is coin tip xs sorted.1))
+      grind (arith, common_steps, remove-is coin tip xs sorted.1, at-is) steps 20000
 ]
 
 pub removed-keyed : (coin tip : ℕ) (all : List KeptCoin) (old new : List ((ℕ × ℕ) × KeptCoin))
     → IsStrictlySortedBy by_place (keys_of old) → old ≡ map keyed all
     → new ≡ remove_entry (is_at (by_place (coin, tip))) old
     → new ≡ map keyed (filter (λ watched. not (is_watched_at coin tip watched)) all)
-removed-keyed coin tip all old new sorted are gone =
-    gone ∙ ap (remove_entry (is_at (by_place (coin, tip)))) are
-    ∙ remove-is coin tip all
-    (subst (λ (es : List ((ℕ × ℕ) × KeptCoin)). IsStrictlySortedBy by_place (keys_of es)) are sorted)
+removed-keyed coin tip all old new sorted are gone = grind (arith, common_steps, remove-is) steps 20000
 
 -- one that was put where there was none, and is taken away again
 pub put-undone : (p : ℕ × ℕ) (watched : KeptCoin) (old : List ((ℕ × ℕ) × KeptCoin))
