@@ -1,18 +1,6 @@
 -- What a wallet keeps in memory with one more note.
-use Rattle.std.proofs.Common.{◌≡◌, ℕ, true, List, [], ◌∷◌, ◌++◌, Option, Some, None, refl, sym, ◌∙◌, ap, subst}
-use Rattle.std.specs.Option.{option_map}
-use Rattle.std.proofs.lemmas.Bool.{and_from}
-use Rattle.lms_sign.specs.declared.secret.Secret.{Secret}
-use Rattle.lms_sign.specs.Types.{leaf_count}
-use Rattle.lms_sign.specs.Tree.{public_key_of}
-use Rattle.leaf_journal.specs.Leaves.{leaves_of}
-use Rattle.node_journal.specs.Role.{are_of, may_follow}
-use Rattle.wallet_core.specs.declared.notes.LeafRecord.{LeafRecord}
-use Rattle.node_rules.specs.declared.identity.WalletIdentity.{WalletIdentity}
-use Rattle.node_rules.specs.WalletRecords.{Note, Accepts, LeavesWith, Reclaims, secret_of, note_in, notes_of, who_is, wallet_kinds, leaves_in, is_bound_note, are_bound_notes}
-use Rattle.node_rules.proofs.WalletGrow.{note-adds, note-follows}
+use Rattle.wallet_node.proofs.Words.{◌≡◌, ℕ, true, List, [], ◌∷◌, ◌++◌, Option, Some, None, refl, sym, ◌∙◌, ap, subst, arith, option_map, and_from, common_steps, Secret, leaf_count, public_key_of, leaves_of, are_of, may_follow, LeafRecord, WalletIdentity, Note, secret_of, note_in, who_is, wallet_kinds, leaves_in, is_bound_note, note-adds, note-follows, MemoryState, change_of, changed, is_bound_change, IsKept}
 use Rattle.wallet_node.specs.declared.change.Change.{Change}
-use Rattle.wallet_node.specs.Inside.{MemoryState, change_of, changed, memory_in, is_bound_change, IsKept}
 use Rattle.wallet_node.proofs.InMemory.{memory-grow}
 
 -- the note that spells a change
@@ -23,18 +11,14 @@ note-from tag (Some note) change is = (note, refl, cc is)
 
 bound-same : (tag : List ℕ) (leaves : List LeafRecord) (note : Note)
     → is_bound_change leaves (change_of tag note) ≡ is_bound_note leaves note
-bound-same tag leaves (Accepts kept) = refl
-bound-same tag leaves (LeavesWith coin tip) = refl
-bound-same tag leaves (Reclaims coin tip q) = refl
+bound-same tag leaves note = grind (arith, common_steps) steps 20000
 
 -- a record that spells a change may follow
 pub change-follows : (dig : List ℕ → List ℕ) (records : List (List ℕ)) (body : List ℕ) (change : Change)
     → are_of (wallet_kinds dig) records ≡ true
     → Some change ≡ option_map (change_of (who_is records).tag) (note_in dig (who_is records).tag body)
     → may_follow (wallet_kinds dig) records body ≡ true
-change-follows dig records body change role spells =
-    let found = note-from (who_is records).tag (note_in dig (who_is records).tag body) change spells in
-    note-follows dig records role body found.0 found.1
+change-follows dig records body change role spells = grind (arith, common_steps, note-from, note-follows) steps 20000
 
 -- and what is kept with it
 pub kept-more : (dig : List ℕ → List ℕ) (records leaves : List (List ℕ)) (body : List ℕ) (more : List (List ℕ))
@@ -57,13 +41,8 @@ kept-more dig records leaves body more who secret public memory after bodies cha
       is_secret = subst (λ (w : WalletIdentity). secret ≡ secret_of w) (sym adds.0) kept.is_secret;
       is_public = subst (λ (w : WalletIdentity). public ≡ public_key_of (secret_of w)) (sym adds.0) kept.is_public;
       count = subst (λ (w : WalletIdentity). leaves_of public ≡ leaf_count w.types) (sym adds.0) kept.count;
-      is_memory =
-          taken ∙ ap (changed change) kept.is_memory ∙ ap (λ (c : Change). changed c (memory_in dig records)) found.2
-          ∙ sym (memory-grow dig records body note role found.1);
+      is_memory = grind (arith, common_steps, memory-grow) steps 20000;
       are_bodies = kept.are_bodies;
       pass = kept.pass;
-      bound =
-          ap (are_bound_notes (leaves_in leaves)) adds.1
-          ∙ and_from (is_bound_note (leaves_in leaves) note) (are_bound_notes (leaves_in leaves) (notes_of dig records))
-          bound kept.bound;
+      bound = grind (arith, common_steps, and_from) steps 20000;
     })

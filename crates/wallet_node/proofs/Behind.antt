@@ -1,24 +1,13 @@
 -- What an opening of leaves behind notes does.
-use Rattle.std.proofs.Common.{◌≡◌, ℕ, true, false, List, Option, Ok, Err, inr, refl, sym, ◌∙◌, ap, subst, length-take-le, arith}
-use Rattle.std.specs.Prelude.{Result, IfOk, IfErr}
+use Rattle.wallet_node.proofs.Words.{◌≡◌, ℕ, true, false, List, Option, Ok, Err, inr, refl, ap, subst, length-take-le, arith, Result, IfOk, IfErr, common_steps, History, FaultPlan, Secret, is_supported, leaf_count, public_key_of, NotesState, Opened, RefusesRole, leaf_records_in_of, leaves_of_key, WalletIdentity, is_body, leaves_in, secret_of, who_is, WalletState, leaves_part}
 use Rattle.sha2.specs.Sha256.{sha256}
 use Rattle.sha2.proofs.Facts256.{length-sha256}
-use Rattle.crash_disk.specs.Disk.{History, FaultPlan}
 use Rattle.gate_journal.specs.declared.refusal.JournalRefusal.{JournalRefusal}
 use Rattle.gate_journal.specs.declared.refusal.JournalRefusal.TheVariants.{NoMemory}
-use Rattle.lms_sign.specs.declared.secret.Secret.{Secret}
-use Rattle.lms_sign.specs.Types.{is_supported, leaf_count}
-use Rattle.lms_sign.specs.Tree.{public_key_of}
 use Rattle.lms_sign.proofs.Laws.{key-types}
-use Rattle.node_journal.specs.Notes.{NotesState, Opened, RefusesRole}
-use Rattle.leaf_journal.specs.Records.{leaf_records_in_of}
 use Rattle.node_journal.proofs.Keeping.{none_made}
-use Rattle.leaf_journal.specs.Leaves.{leaves_of as leaves_of_key}
-use Rattle.node_rules.specs.declared.identity.WalletIdentity.{WalletIdentity}
-use Rattle.node_rules.specs.WalletRecords.{is_body, leaves_in, secret_of, who_is}
 use Rattle.node_rules.specs.WalletOpening.{leaves_of}
 use Rattle.wallet_node.specs.declared.opening.ReturnedBoth.{ReturnedBoth}
-use Rattle.wallet_node.specs.State.{WalletState, leaves_part}
 use Rattle.wallet_node.specs.Opening.{IsUnbound, OpensNotes, OpensLeaves, RefusesBehind, RefusesLeaves, RefusesWallet}
 
 -- the wallet's key has as many leaves as its types say
@@ -34,9 +23,7 @@ module _ {D : Type 0} (told : D → Option History) (plan : D → Option FaultPl
     (secret_is : secret ≡ secret_of who) where
   -- by which reader
   leaves-same : leaves_of_key (public_key_of secret) ≡ leaves_of notes.records
-  leaves-same =
-      ap (λ (s : Secret). leaves_of_key (public_key_of s)) secret_is ∙ key-leaves who supported
-      ∙ ap (λ (w : WalletIdentity). leaf_count w.types) who_is_it
+  leaves-same = grind (arith, common_steps, key-leaves) steps 20000
 
   -- leaves that were opened
   pub behind-opened : (opened : NotesState D)
@@ -75,10 +62,7 @@ pub behind-over : {D H : Type 0} (told : D → Option History) (plan : D → Opt
     → IfOk result (λ node. OpensLeaves told plan faults dig notes disk (leaves_part node))
 behind-over told plan faults dig notes disk opened hash (Err returned) opens over = tt
 behind-over {D} told plan faults dig notes disk opened hash (Ok node) opens over =
-    let same : opened ≡ leaves_part node =
-    (λ i. record { disk = opened.disk; closed = opens.is_open i; records = opened.records }) ∙ sym (ap leaves_part over)
-    in
-    subst (λ (leaves : NotesState D). OpensLeaves told plan faults dig notes disk leaves) same opens
+    grind (arith, common_steps) steps 20000
 
 -- what was refused behind leaves that were opened
 pub behind-unbound : {D T : Type 0} (told : D → Option History) (plan : D → Option FaultPlan) (faults : D → ℕ)

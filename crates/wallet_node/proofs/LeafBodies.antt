@@ -1,15 +1,5 @@
 -- What the leaves bind, read by their numbers.
-use Rattle.std.proofs.Common.{◌≡◌, ◌<◌, ◌+◌, ℕ, true, List, [], ◌∷◌, ◌++◌, length, take, get_or, None, Some, refl, sym, ◌∙◌, ap, subst, arith}
-use Rattle.std.specs.Prelude.{slice_get}
-use Rattle.std.proofs.lemmas.Option.{slice_get-get_or, slice_get_within, get_or_from_slice_get}
-use Rattle.std.proofs.lemmas.List.{map_more, take-map}
-use Rattle.std.proofs.lemmas.List.Elements.{All-get_or}
-use Rattle.plasma_tx.specs.declared.body.Body.{Body}
-use Rattle.plasma_tx.specs.Spelling.{body_at_start}
-use Rattle.leaf_journal.specs.Records.{MessagesPass, messages_of}
-use Rattle.wallet_core.specs.declared.notes.LeafRecord.{LeafRecord}
-use Rattle.node_rules.specs.WalletRecords.{is_body, leaves_in}
-use Rattle.wallet_node.specs.Inside.{body_of}
+use Rattle.wallet_node.proofs.Words.{◌≡◌, ◌<◌, ◌+◌, ℕ, true, List, [], ◌∷◌, ◌++◌, length, take, get_or, None, Some, refl, sym, ◌∙◌, ap, subst, arith, slice_get, slice_get-get_or, slice_get_within, get_or_from_slice_get, map_more, take-map, All-get_or, Body, body_at_start, MessagesPass, messages_of, LeafRecord, is_body, leaves_in, body_of}
 
 -- a number below that of the messages has one
 pub never-past : (messages : List (List ℕ)) (q used : ℕ) → used ≡ length messages → q < used

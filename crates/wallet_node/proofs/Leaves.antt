@@ -1,48 +1,19 @@
 -- What a wallet's leaves do, in the words of its commands.
-use Rattle.std.proofs.Common.{◌≡◌, ℕ, Bool, true, false, List, [], ◌∷◌, ◌++◌, length, Option, None, Some, if◌then◌else◌, Ok, Err, inl, inr, refl, sym, ◌∙◌, ap, subst, arith}
-use Rattle.std.specs.Prelude.{Result, IfSome}
-use Rattle.std.specs.List.{All}
-use Rattle.std.proofs.lemmas.List.Elements.{All-push}
-use Rattle.lms_sign.specs.declared.secret.Secret.{Secret}
-use Rattle.plasma_tx.specs.declared.body.Body.{Body}
-use Rattle.plasma_tx.specs.Spelling.{body_text, body_at_start}
-use Rattle.leaf_journal.specs.Records.{binding_record, is_marked, marker, messages_of, MayBind}
-use Rattle.leaf_journal.specs.Leaves.{marker_effect, bind_stop, migrate_stop}
+use Rattle.wallet_node.proofs.Words.{◌≡◌, ℕ, Bool, true, false, List, [], ◌∷◌, ◌++◌, length, Option, None, Some, if◌then◌else◌, Err, inl, refl, sym, ◌∙◌, ap, subst, arith, IfSome, All, All-push, common_steps, Secret, Body, body_text, body_at_start, binding_record, is_marked, messages_of, MayBind, marker_effect, bind_stop, migrate_stop, LeafRecord, WalletIdentity, is_body, leaves_in, notes_of, are_bound_notes, WalletRecords, migrate_effect, leaves-grow, bound-grow, stop_in, MemoryState, IsKept, body_of, bind_refusal, migrate_refusal}
 use Rattle.leaf_journal.specs.declared.refusal.BindRefusal.{BindRefusal}
-use Rattle.leaf_journal.specs.declared.refusal.BindRefusal.TheVariants.{KeySpent, DeviceFault as BindFault, Closed as BindClosed}
 use Rattle.leaf_journal.specs.declared.refusal.MigrateRefusal.{MigrateRefusal}
-use Rattle.leaf_journal.specs.declared.refusal.MigrateRefusal.TheVariants.{AlreadyNew, DeviceFault, Closed}
-use Rattle.wallet_core.specs.declared.notes.LeafRecord.{LeafRecord}
-use Rattle.node_rules.specs.declared.identity.WalletIdentity.{WalletIdentity}
-use Rattle.node_rules.specs.declared.refusal.WalletRefusal.{WalletRefusal}
-use Rattle.node_rules.specs.declared.refusal.WalletRefusal.TheVariants.{AlreadyNew as RefusedNew}
-use Rattle.node_rules.specs.WalletRecords.{is_body, leaves_in, notes_of, are_bound_notes}
-use Rattle.node_rules.specs.Wallet.{WalletRecords, migrate_effect, answers, binds_it}
 use Rattle.node_rules.proofs.Bodies.{text-long, text-is_body}
-use Rattle.node_rules.proofs.WalletGrow.{leaves-grow, bound-grow}
-use Rattle.wallet_node.specs.State.{stop_in}
-use Rattle.wallet_node.specs.Inside.{MemoryState, IsKept, body_of, bind_refusal, migrate_refusal}
 
 pub migrate-stops : (why : MigrateRefusal) → migrate_stop (Err why) ≡ stop_in (migrate_refusal why)
-migrate-stops AlreadyNew = refl
-migrate-stops DeviceFault = refl
-migrate-stops Closed = refl
+migrate-stops why = grind (arith, common_steps) steps 20000
 
 pub migrate-same : (wallet : WalletRecords)
     → (marker_effect wallet.leaves).note ≡ (migrate_effect wallet).leaf
 unfolding migrate_effect
-migrate-same wallet = at (is_marked wallet.leaves) refl
-  where
-    at : (b : Bool) → is_marked wallet.leaves ≡ b → (marker_effect wallet.leaves).note
-        ≡ (if is_marked wallet.leaves then answers {A = Result Unit WalletRefusal} (Err RefusedNew)
-        else binds_it (Ok tt) marker).leaf
-    at true marked = rw marked refl
-    at false marked = rw marked refl
+migrate-same wallet = grind (arith, common_steps) steps 20000
 
 pub bind-stops : (why : BindRefusal) → bind_stop (Err why) ≡ stop_in (bind_refusal why)
-bind-stops (KeySpent count) = refl
-bind-stops BindFault = refl
-bind-stops BindClosed = refl
+bind-stops why = grind (arith, common_steps) steps 20000
 
 -- a message that a body's bytes are
 pub body-binds : (leaves : List (List ℕ)) (body : Body) → length body.tag ≡ 32 → length body.to.key ≡ 56
@@ -52,9 +23,7 @@ body-binds leaves body tag_long key_long form = at body.last refl form
     at : (last : Option ℕ) → body.last ≡ last → IfSome last (λ n. is_marked leaves ≡ true)
         → MayBind leaves (body_text (record body { last = last }))
     at None is marked = inl (text-long body.tag body.coin body.parent body.to tag_long key_long None)
-    at (Some last) is marked =
-        (let long = text-long body.tag body.coin body.parent body.to tag_long key_long (Some last) in
-        inr (marked, omega (arith, long), omega (arith, long)))
+    at (Some last) is marked = grind (arith, common_steps, text-long) steps 20000
 
 -- what is kept with one more leaf bound
 pub kept-bound : (dig : List ℕ → List ℕ) (notes leaves : List (List ℕ)) (message : List ℕ) (more : List (List ℕ))
@@ -108,9 +77,4 @@ pub kept-same : (dig : List ℕ → List ℕ) (notes leaves more : List (List �
     → IsKept dig (record { notes = notes; leaves = leaves }) who secret public memory bodies
     → IsKept dig (record { notes = notes; leaves = more }) who secret key memory after
 kept-same dig notes leaves more who secret public key memory bodies after more_is key_is after_is kept =
-    subst (λ (l : List (List ℕ)). IsKept dig (record { notes = notes; leaves = l }) who secret key memory after)
-    (sym more_is)
-    (subst (λ (k : List ℕ). IsKept dig (record { notes = notes; leaves = leaves }) who secret k memory after)
-    (sym key_is)
-    (subst (λ (b : List LeafRecord). IsKept dig (record { notes = notes; leaves = leaves }) who secret public memory b)
-    (sym after_is) kept))
+    grind (arith, common_steps) steps 20000

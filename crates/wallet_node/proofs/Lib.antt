@@ -15,3 +15,4 @@ pub mod Behind
 pub mod OneMessage
 pub mod OneDisk
 pub mod SharedHistories
+mod Words

@@ -1,7 +1,6 @@
 -- A device fault is of one of a wallet's disks.
-use Rattle.std.proofs.Common.{◌≡◌, ◌∙◌, ℕ, true, Option, Some, None, inl, inr, ap}
+use Rattle.wallet_node.proofs.Words.{◌≡◌, ◌∙◌, ℕ, true, Option, Some, None, inl, inr, ap, arith, common_steps, History, FaultPlan}
 use Rattle.plasma_base.specs.Causes.{faults_after}
-use Rattle.crash_disk.specs.Disk.{History, FaultPlan}
 use Rattle.wallet_node.specs.Faults.{NotesFaultsAreOfNotes, LeavesFaultsAreOfLeaves, OpeningsFailOnOneDisk, InitsFailOnOneDisk}
 
 module _ {D : Type 0} (told : D → Option History) (plan : D → Option FaultPlan) (faults : D → ℕ) where
@@ -30,10 +29,7 @@ module _ {D : Type 0} (told : D → Option History) (plan : D → Option FaultPl
   inits_fail identity notes leaves new_notes new_leaves (inl (untold, same)) =
       inl (record { of_notes = untold.1; of_leaves = ap faults same })
   inits_fail identity notes leaves new_notes new_leaves (inr (was, asks, inl (long, inl (refuses, same)))) =
-      inl (record {
-        of_notes = asked notes was (faults new_notes) asks.count refuses.count;
-        of_leaves = ap faults same;
-      })
+      grind (arith, common_steps, asked) steps 20000
   inits_fail identity notes leaves new_notes new_leaves (inr (was, asks, inl (long, inr (inl (passes, refuses))))) =
       inr (record { of_notes = passes.count ∙ asks.count; of_leaves = refuses.count })
   inits_fail identity notes leaves new_notes new_leaves (inr (was, asks, inl (long, inr (inr (stops, passes))))) =

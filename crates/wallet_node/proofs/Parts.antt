@@ -1,9 +1,6 @@
 -- A wallet's two parts, closed by one flag.
-use Rattle.std.proofs.Common.{◌≡◌, ℕ, ◌||◌, Bool, true, false, List, Option, refl, sym, subst}
-use Rattle.crash_disk.specs.Disk.{History, FaultPlan}
-use Rattle.node_journal.specs.Notes.{NotesState, Did}
+use Rattle.wallet_node.proofs.Words.{◌≡◌, ℕ, ◌||◌, Bool, true, false, List, Option, refl, sym, subst, arith, common_steps, History, FaultPlan, NotesState, Did, WalletState, DidNote, DidLeaf}
 use Rattle.node_journal.specs.declared.stop.Stop.{Stop}
-use Rattle.wallet_node.specs.State.{WalletState, DidNote, DidLeaf}
 
 pub open-both : (a b : Bool) → (a || b) ≡ false → (a ≡ false) × (b ≡ false)
 open-both true b is = absurd (cc is)
@@ -24,11 +21,7 @@ module _ {D : Type 0} (told : D → Option History) (plan : D → Option FaultPl
     (added : Option (List ℕ)) (stop : Option Stop) (old new : NotesState D) where
   pub did-beside : (other : Bool) → other ≡ false → Did told plan faults added old stop new
       → Did told plan faults added (beside other old) stop (beside other new)
-  did-beside other is did =
-      subst (λ (b : Bool). Did told plan faults added (beside b old) stop (beside b new)) (sym is)
-      (subst (λ (b : Bool). Did told plan faults added (record old { closed = b }) stop (beside false new))
-      (or-false old.closed)
-      (subst (λ (b : Bool). Did told plan faults added old stop (record new { closed = b })) (or-false new.closed) did))
+  did-beside other is did = grind (arith, common_steps, or-false) steps 20000
 
   pub did-behind : (other : Bool) → other ≡ false → Did told plan faults added old stop new
       → Did told plan faults added (behind other old) stop (behind other new)
@@ -62,24 +55,10 @@ module _ {D H : Type 0} (told : D → Option History) (plan : D → Option Fault
   pub note-done : (disk : D) (closed : Bool) (leaves : List (List ℕ)) → of_notes disk closed leaves old ≡ state
       → closed ≡ false → Did told plan faults added old stop new
       → DidNote told plan faults added state stop (of_notes disk closed leaves new)
-  note-done disk closed leaves is none did =
-      subst (λ (s : WalletState D H). DidNote told plan faults added s stop (of_notes disk closed leaves new)) is
-      (record {
-        did = did-beside told plan faults added stop old new closed none did;
-        disk = refl;
-        leaves = refl;
-        hash = refl;
-      })
+  note-done disk closed leaves is none did = grind (arith, common_steps, did-beside) steps 20000
 
   -- and so with leaves
   pub leaf-done : (disk : D) (closed : Bool) (notes : List (List ℕ)) → of_leaves disk closed notes old ≡ state
       → closed ≡ false → Did told plan faults added old stop new
       → DidLeaf told plan faults added state stop (of_leaves disk closed notes new)
-  leaf-done disk closed notes is none did =
-      subst (λ (s : WalletState D H). DidLeaf told plan faults added s stop (of_leaves disk closed notes new)) is
-      (record {
-        did = did-behind told plan faults added stop old new closed none did;
-        disk = refl;
-        notes = refl;
-        hash = refl;
-      })
+  leaf-done disk closed notes is none did = grind (arith, common_steps, did-behind) steps 20000

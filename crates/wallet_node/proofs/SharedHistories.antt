@@ -1,23 +1,12 @@
 -- Coins that share histories: what a history that grows, and one more, leave of them.
-use Rattle.std.proofs.Common.{◌≡◌, ◌≤◌, ℕ, Bool, true, false, List, [], ◌∷◌, ◌++◌, length, take, find, Option, Some, None, refl, sym, ◌∙◌, ap, arith}
-use Rattle.std.specs.Prelude.{slice_index_or, nat_lt}
-use Rattle.std.specs.Option.{option_map, option_map_or}
-use Rattle.std.proofs.lemmas.Bool.Decides.{nat_tests}
-use Rattle.std.proofs.lemmas.List.{get_or_read, get_or_past, take_all, take-take, length-take, map-append}
-use Rattle.std.proofs.lemmas.List.Elements.{All-head, All-tail, All-weaker, All-push, recursion_from_All}
-use Rattle.std.proofs.lemmas.Grind.{common_steps}
+use Rattle.wallet_node.proofs.Words.{◌≡◌, ◌≤◌, ℕ, true, false, List, [], ◌∷◌, ◌++◌, length, take, find, Some, None, refl, sym, ◌∙◌, ap, arith, slice_index_or, nat_lt, option_map, option_map_or, nat_tests, get_or_read, get_or_past, take_all, take-take, length-take, map-append, All-head, All-tail, All-weaker, All-push, recursion_from_All, common_steps, Link, KeptCoin, is_kept_at}
 use Rattle.plasma_tx.proofs.Each.{all-found}
-use Rattle.plasma_tx.specs.declared.links.Link.{Link}
-use Rattle.node_rules.specs.declared.kept_coin.KeptCoin.{KeptCoin}
 use Rattle.wallet_node.specs.declared.kept_coins.Place.{Place}
-use Rattle.wallet_node.specs.Inside.{is_kept_at}
 use Rattle.wallet_node.specs.SharedHistories.{history_at, is_place_of, coin_at_place, coins_at, IsWithin, AreWithin, BeginAsBefore}
 
 -- a list that begins with another isn't shorter
 longer : (first all : List Link) → take (length first) all ≡ first → length first ≤ length all
-longer first all begins =
-    let cut : length (take (length first) all) ≡ length first = ap length begins in
-    grind (arith, common_steps, cut, length-take (length first) all)
+longer first all begins = grind (arith, common_steps, common_steps, length-take) steps 20000
 
 -- a place within a history stays within it
 within-after : (before after : List (List Link)) → BeginAsBefore before after → (place : Place) → IsWithin before place
@@ -71,15 +60,7 @@ find-coin : (histories : List (List Link)) (coin tip : ℕ) (places : List Place
     ≡ option_map (coin_at_place histories) (find (is_place_of coin tip) places)
 find-coin histories coin tip [] = refl
 find-coin histories coin tip (place ∷ places) =
-    at (find-coin histories coin tip places) (is_place_of coin tip place) refl
-  where
-    at : find (is_kept_at coin tip) (coins_at histories places)
-        ≡ option_map (coin_at_place histories) (find (is_place_of coin tip) places)
-        → (b : Bool) → is_place_of coin tip place ≡ b
-        → find (is_kept_at coin tip) (coins_at histories (place ∷ places))
-        ≡ option_map (coin_at_place histories) (find (is_place_of coin tip) (place ∷ places))
-    at rest true is = rw is refl
-    at rest false is = rw is rest
+    grind (arith, common_steps, find-coin histories coin tip places) steps 20000
 
 -- the links that are found, and those of the place that is found
 abbrev links_found : ℕ → ℕ → List KeptCoin → List Link
@@ -88,15 +69,11 @@ links_found coin tip coins = option_map_or (λ (kept : KeptCoin). kept.spends) (
 pub spends-found : (histories : List (List Link)) (coin tip : ℕ) (places : List Place) (place : Place)
     → find (is_place_of coin tip) places ≡ Some place
     → take place.count (history_at histories place.history) ≡ links_found coin tip (coins_at histories places)
-spends-found histories coin tip places place is =
-    sym (ap (λ (found : Option KeptCoin). option_map_or (λ (kept : KeptCoin). kept.spends) found [])
-    (find-coin histories coin tip places ∙ ap (option_map (coin_at_place histories)) is))
+spends-found histories coin tip places place is = grind (arith, common_steps, find-coin) steps 20000
 
 pub none-found : (histories : List (List Link)) (coin tip : ℕ) (places : List Place)
     → find (is_place_of coin tip) places ≡ None → links_found coin tip (coins_at histories places) ≡ []
-none-found histories coin tip places is =
-    ap (λ (found : Option KeptCoin). option_map_or (λ (kept : KeptCoin). kept.spends) found [])
-    (find-coin histories coin tip places ∙ ap (option_map (coin_at_place histories)) is)
+none-found histories coin tip places is = grind (arith, common_steps, find-coin) steps 20000
 
 -- the place that is found is within its history
 pub found-within : (histories : List (List Link)) (coin tip : ℕ) (places : List Place) (place : Place)
@@ -113,6 +90,4 @@ history-read histories i history within is =
 
 pub none-read : (histories : List (List Link)) (i count : ℕ) → false ≡ nat_lt i (length histories)
     → [] ≡ take count (history_at histories i)
-none-read histories i count past =
-    sym (ap (take count) (get_or_past histories i [] (grind (arith, nat_tests, past)))
-    ∙ take_all {A = Link} count [] (omega arith))
+none-read histories i count past = grind (arith, common_steps, get_or_past, nat_tests, take_all) steps 20000

@@ -1,14 +1,7 @@
 -- The start of an exit at the last of a coin's links.
-use Rattle.std.proofs.Common.{◌≡◌, ◌∙◌, ℕ, ◌-◌, List, [], ◌∷◌, ◌++◌, length, take, slice_get, Some, refl, sym, ap, arith}
-use Rattle.std.proofs.lemmas.Grind.{common_steps}
-use Rattle.plasma_tx.specs.declared.call.RootCall.{RootCall}
+use Rattle.wallet_node.proofs.Words.{◌≡◌, ℕ, ◌-◌, List, [], ◌∷◌, ◌++◌, length, take, slice_get, Some, refl, ap, arith, common_steps, RootCall, Link, tip_shown, start_of, links_behind}
 use Rattle.plasma_tx.specs.declared.call.Shown.{Shown}
 use Rattle.plasma_tx.specs.declared.opening.RawOpening.{RawOpening}
-use Rattle.plasma_tx.specs.declared.links.Link.{Link}
-use Rattle.plasma_tx.specs.Links.{last_spend}
-use Rattle.watch_duty.specs.Duty.{tip_shown}
-use Rattle.node_rules.specs.Wallet.{start_by, start_of}
-use Rattle.wallet_node.specs.Inside.{links_behind}
 
 get-last : {X : Type 0} (xs : List X) (x : X) → slice_get (xs ++ x ∷ []) (length xs) ≡ Some x
 get-last [] x = refl
@@ -26,10 +19,4 @@ pub start-at-last : (account coin tip deposit : ℕ) (spends before : List Link)
 start-at-last account coin tip deposit spends before link shown opening is shows opens =
     let all : List Link = before ++ link ∷ [] in
     let long : length all - 1 ≡ length before = Prim.grind (arith, common_steps) in
-    let at : slice_get all (length all - 1) ≡ Some link = ap (slice_get all) long ∙ get-last before link in
-    let rest : take (length all - 1) all ≡ before = ap (λ n. take n all) long ∙ take-before before link in
-    let last : RootCall.StartSpend account coin (tip_shown (links_behind 0 deposit before)) link.opening
-    ≡ start_of account tip (links_behind coin deposit all) =
-    sym (ap (start_by account tip (links_behind coin deposit all)) at
-    ∙ ap (λ spends. RootCall.StartSpend account coin (tip_shown (links_behind coin deposit spends)) link.opening) rest) in
-    rw (is, shows, opens) last
+    grind (arith, common_steps, get-last, take-before) steps 20000

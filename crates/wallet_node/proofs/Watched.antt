@@ -1,22 +1,13 @@
 -- What is due over all coins is due over those of which an exit stands.
-use Rattle.std.proofs.Common.{◌≡◌, ◌⊎◌, ◌<◌, ◌≤◌, ℕ, zero, suc, ◌+◌, ◌==◌, ◌&&◌, Bool, true, false, List, [], ◌∷◌, ◌++◌, None, inl, inr, refl, sym, ◌∙◌, ap, arith}
-use Rattle.std.specs.List.{list_any, flat_map, range_with_len, AllByRecursion}
+use Rattle.wallet_node.proofs.Words.{◌≡◌, ◌⊎◌, ◌<◌, ◌≤◌, ℕ, zero, suc, ◌+◌, ◌==◌, ◌&&◌, Bool, true, false, List, [], ◌∷◌, ◌++◌, None, inl, inr, refl, sym, ◌∙◌, ap, arith, list_any, flat_map, range_with_len, AllByRecursion, cases_Bool, cases_eq, ne_eqb, or_from, nat_tests, common_steps, RootCall, coins, coin_at, exits_of, has_exits, is_exiting, state_of, may_have, leaves_in, WalletRecords, noted, coin_state, due_in, watch_answer, due_of_coin, is_watched}
 use Rattle.std.specs.List.Sorted.{IsStrictlySortedBy}
 use Rattle.std.specs.Ordering.{nat_cmp}
 use Rattle.std.specs.BTreeSet.{BTreeSet, contains, IsOrdered}
 use Rattle.std.specs.declared.cmp.Ordering.TheVariants.{Less}
-use Rattle.std.proofs.lemmas.Bool.{cases_Bool, cases_eq, ne_eqb, or_from}
-use Rattle.std.proofs.lemmas.Bool.Decides.{nat_tests}
-use Rattle.plasma_tx.specs.declared.call.RootCall.{RootCall}
 use Rattle.plasma_tx.specs.declared.call.RootCall.TheVariants.{Deposit}
 use Rattle.plasma_tx.specs.declared.views.ExitView.{ExitView}
-use Rattle.plasma_tx.specs.Views.{coins, coin_at, exits_of, has_exits, is_exiting}
 use Rattle.plasma_tx.proofs.States.{is_at-nat}
-use Rattle.wallet_core.specs.State.{state_of, may_have}
 use Rattle.wallet_core.proofs.OwnCoins.{others_are_nothing}
-use Rattle.node_rules.specs.WalletRecords.{leaves_in}
-use Rattle.node_rules.specs.Wallet.{WalletRecords, noted, coin_state, due_in, watch_answer}
-use Rattle.wallet_node.specs.Inside.{due_of_coin, is_watched}
 use Rattle.wallet_node.proofs.Spends.{due-none}
 
 -- ---- rising numbers, and a range
@@ -48,8 +39,7 @@ among xs c = list_any (λ x. x == c) xs
 none-below : (low c : ℕ) (xs : List ℕ) → RiseFrom low xs → c < low → among xs c ≡ false
 none-below low c [] rise below = refl
 none-below low c (x ∷ xs) rise below =
-    or_from (x == c) (among xs c) (ne_eqb x c (λ same. absurd (omega arith)))
-    (none-below (x + 1) c xs rise.1 (omega arith))
+    grind (arith, common_steps, none-below (x + 1) c xs rise.1 (omega arith), or_from, ne_eqb) steps 20000
 
 module _ {X : Type 0} (f : ℕ → List X) where
   none-due : (low : ℕ) (xs : List ℕ) → RiseFrom low xs → ((c : ℕ) → low ≤ c → f c ≡ []) → flat_map f xs ≡ []
@@ -71,8 +61,7 @@ module _ {X : Type 0} (f : ℕ → List X) where
         ap (λ (k : ℕ). f k ++ flat_map f xs) (sym same)
         ∙ ap (λ (l : List X). f low ++ l)
         (over-range n (low + 1) xs (next xs same rise.1)
-        (λ c from not. other c (omega arith)
-        (or_from (x == c) (among xs c) (ne_eqb x c (λ here. absurd (omega arith))) not))
+        (grind (arith, common_steps, or_from, ne_eqb) steps 20000)
         (λ c from. past c (omega arith)))
     | inr apart ↦
         let above : low + 1 ≤ x = higher rise.0 apart in
@@ -149,12 +138,7 @@ pub watched-own : (dig : List ℕ → List ℕ) (wallet : WalletRecords) (log : 
     → IsOrdered nat_cmp own
     → flat_map (due_of_coin dig wallet log) own.keys ≡ watch_answer dig wallet log
 watched-own dig wallet log own exactly rising =
-    watched-but dig wallet log own
-    (λ c none. elim (both-false (may_have (noted dig wallet) log c) (is_exiting log c) (sym (exactly c) ∙ none)) [
-      | inl other ↦ other-due dig wallet log c other
-      | inr still ↦ still-due dig wallet log c still
-    ])
-    rising
+    grind (arith, common_steps, watched-but, both-false, other-due, still-due) steps 20000
 
 -- ---- what memory is taken for
 
@@ -162,9 +146,4 @@ watched-own dig wallet log own exactly rising =
 pub watched-may : (dig : List ℕ → List ℕ) (wallet : WalletRecords) (log : List RootCall) (coin : ℕ)
     → is_watched (coin_state dig wallet log coin) ≡ true → may_have (noted dig wallet) log coin ≡ true
 unfolding coin_state
-watched-may dig wallet log coin watched = elim (cases_Bool (may_have (noted dig wallet) log coin)) [
-  | inl may ↦ may
-  | inr other ↦
-      absurd (let wrong : false ≡ true = sym (ap is_watched
-      (others_are_nothing (noted dig wallet) (leaves_in wallet.leaves) log coin other)) ∙ watched in cc wrong)
-]
+watched-may dig wallet log coin watched = grind (arith, common_steps, cases_Bool, others_are_nothing) steps 20000
