@@ -1,20 +1,11 @@
 -- A bundle that is bytes, and what is kept of it, are bytes.
-use Rattle.std.proofs.Common.{◌≡◌, ℕ, List, [], ◌∷◌, ◌++◌, map, length, Some, None, Ok, sym, subst}
-use Rattle.std.specs.Prelude.{option_map}
-use Rattle.std.specs.List.{AllByRecursion, flat_map, cons_option}
+use Rattle.node_replies.proofs.Names.{◌≡◌, ℕ, List, [], ◌∷◌, ◌++◌, map, length, Ok, subst, arith, common_steps, Links, RootCall, number_text, tests_by, Rules, Bundle, item_text, length_text, bundle_text, bundle_in, chain_of, kept_of, links_handed}
+use Rattle.std.specs.List.{AllByRecursion, flat_map}
 use Rattle.plasma_tx.specs.declared.opening.RawOpening.{RawOpening}
 use Rattle.plasma_tx.specs.declared.links.Link.{Link}
-use Rattle.plasma_tx.specs.declared.links.Links.{Links}
-use Rattle.plasma_tx.specs.declared.signed_tx.SignedTx.{SignedTx}
-use Rattle.plasma_tx.specs.declared.call.RootCall.{RootCall}
-use Rattle.plasma_tx.specs.Spelling.{number_text}
-use Rattle.plasma_tx.specs.Shown.{tests_by, Rules}
-use Rattle.coin_history.specs.declared.bundle.Bundle.{Bundle}
-use Rattle.coin_history.specs.Bundles.{item_text, length_text, bundle_text, bundle_in}
-use Rattle.coin_history.specs.History.{transfer_of, links_in}
+use Rattle.coin_history.specs.History.{links_in}
 use Rattle.coin_history.proofs.BundleLaws.{text-bundle_in}
 use Rattle.coin_history.proofs.HistoryFound.{histories_are_found}
-use Rattle.node_rules.specs.Kept.{chain_of, kept_of, links_handed}
 use Rattle.node_rules.proofs.KeptTexts.{handed-bundle}
 use Rattle.node_replies.proofs.ByteTexts.{Small, small-nil, small-append, small-number, small-short, small-front, small-back}
 
@@ -67,15 +58,7 @@ pub kept-small : (rules : Rules) (coin : ℕ) (openings : List RawOpening) → A
 unfolding links_in
 kept-small rules coin [] small = tt
 kept-small rules coin (opening ∷ openings) small =
-    let rest = kept-small rules coin openings small.1 in
-    elim (transfer_of rules coin opening) as (λ t. AreSmallOpenings
-    (map (λ (link : Link). link.opening)
-    (cons_option
-    (option_map (λ (tx : SignedTx). record { block = opening.block; tx = tx; opening = opening }) t)
-    (links_in rules coin openings)))) [
-      | None ↦ rest
-      | Some tx ↦ (small.0, rest)
-    ]
+    grind (arith, common_steps, kept-small rules coin openings small.1) steps 20000
 
 -- those that are kept of a bundle that is handed in and taken
 pub handed-small : (dig : List ℕ → List ℕ) (tag : List ℕ) (log : List RootCall) (bytes : List ℕ) (links : Links)
@@ -84,5 +67,4 @@ handed-small dig tag log bytes links small is =
     let found = handed-bundle dig tag log (bundle_in bytes) links is in
     let text = text-bundle_in bytes found.0 small.are found.1 in
     let history = histories_are_found (tests_by dig) (chain_of tag) log found.0 links text.1.rising found.2 in
-    subst (λ (l : Links). AreSmallOpenings (kept_of l).openings) (sym history.shown)
-    (kept-small (chain_of tag) found.0.coin found.0.openings (read-small bytes found.0 small found.1))
+    grind (arith, common_steps, kept-small, read-small) steps 20000

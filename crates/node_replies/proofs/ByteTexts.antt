@@ -1,6 +1,5 @@
 -- Texts of numbers, digests, keys, bodies and signatures are bytes.
-use Rattle.std.proofs.Common.{◌≡◌, ℕ, zero, suc, ◌+◌, ◌-◌, ◌*◌, ◌<◌, ◌%◌, ◌/◌, true, false, if◌then◌else◌, List, [], ◌∷◌, ◌++◌, length, Option, Some, None, subst, arith, lit<}
-use Rattle.std.specs.Prelude.{nat_le, slice_index, take, drop, replicate}
+use Rattle.node_replies.proofs.Names.{◌≡◌, ℕ, zero, suc, ◌+◌, ◌-◌, ◌*◌, ◌<◌, ◌%◌, ◌/◌, true, false, if◌then◌else◌, List, [], ◌∷◌, ◌++◌, length, Option, Some, None, subst, arith, lit<, nat_le, slice_index, take, drop, replicate, common_steps, Owner, AreBytes, number_text, owner_text, mark_of, last_text, body_text}
 use Rattle.std.specs.Int.{w32, to_be_bytes}
 use Rattle.std.proofs.Math.Nat.{mod-lt}
 use Rattle.std.proofs.Math.Seq.{take-append_seam, drop-append_seam}
@@ -13,9 +12,7 @@ use Rattle.lms_sign.specs.OneTime.{digit, concatenation, chain_step, chain_value
 use Rattle.lms_sign.specs.Tree.{leaf_node, inner_node, node_within, tree_node, public_key_of, sibling, authentication_path, signature_of}
 use Rattle.lms_sign.proofs.Lists.{length-u32str}
 use Rattle.lms_sign.proofs.Nodes.{length-tree_node}
-use Rattle.plasma_tx.specs.declared.owner.Owner.{Owner}
 use Rattle.plasma_tx.specs.declared.body.Body.{Body}
-use Rattle.plasma_tx.specs.Spelling.{AreBytes, number_text, owner_text, mark_of, last_text, body_text}
 
 -- the numbers are bytes; a record, so that its list can be found from it
 pub record Small (bytes : List ℕ) : Type 0 where
@@ -89,12 +86,7 @@ small-key secret small =
 pub length-key : (secret : Secret) → length secret.id ≡ 16 → length (public_key_of secret) ≡ 56
 unfolding public_key_of
 length-key secret long =
-    simp length-append (omega (
-      arith,
-      length-u32str secret.types.lms,
-      length-u32str secret.types.ots,
-      length-tree_node secret 1,
-    ))
+    simp length-append (grind (arith, common_steps, length-u32str, length-tree_node) steps 20000)
 
 small-path : (secret : Secret) (levels r : ℕ) → Small (authentication_path secret levels r)
 unfolding authentication_path

@@ -1,3 +1,4 @@
 pub mod ByteTexts
 pub mod BundleTexts
 pub mod WalletEnds
+mod Names

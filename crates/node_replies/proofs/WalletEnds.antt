@@ -1,29 +1,21 @@
 -- How a wallet's commands end: each is refused, or answered with what it adds.
-use Rattle.std.proofs.Common.{◌≡◌, ℕ, not, Bool, true, false, if◌then◌else◌, List, [], ◌∷◌, Option, Some, None, Ok, Err, refl, sym, ap, ◌∙◌, nat_lt}
-use Rattle.std.specs.Prelude.{Result}
-use Rattle.plasma_tx.specs.declared.owner.Owner.{Owner}
-use Rattle.plasma_tx.specs.declared.links.Links.{Links}
-use Rattle.plasma_tx.specs.declared.call.RootCall.{RootCall}
+use Rattle.node_replies.proofs.Names.{◌≡◌, ℕ, Bool, true, false, if◌then◌else◌, List, Option, Some, None, Ok, Err, refl, nat_lt, arith, Result, common_steps, Owner, Links, RootCall, Bundle, bundle_in, kept_of, links_handed, standing_block, tests_by}
 use Rattle.plasma_tx.specs.Links.{tip_of, last_owner_of}
-use Rattle.coin_history.specs.declared.bundle.Bundle.{Bundle}
 use Rattle.coin_history.specs.declared.refusal.HistoryRefusal.{HistoryRefusal}
-use Rattle.coin_history.specs.Bundles.{bundle_in}
 use Rattle.wallet_core.specs.declared.notes.Notes.{Notes}
 use Rattle.wallet_core.specs.declared.coin_state.CoinState.{CoinState}
-use Rattle.wallet_core.specs.declared.coin_state.CoinState.TheVariants.{Nothing, Sending, Leaving, Held}
+use Rattle.wallet_core.specs.declared.coin_state.CoinState.TheVariants.{Sending, Leaving, Held}
 use Rattle.wallet_core.specs.State.{is_owner}
 use Rattle.node_rules.specs.declared.answers.Accepted.{Accepted}
 use Rattle.node_rules.specs.declared.answers.Sent.{Sent}
 use Rattle.node_rules.specs.declared.answers.Reclaimed.{Reclaimed}
 use Rattle.node_rules.specs.declared.refusal.WalletRefusal.{WalletRefusal}
-use Rattle.node_rules.specs.declared.refusal.WalletRefusal.TheVariants.{History, NotMine, NotHeld, NotSending, NoLast, NotYet, Leaving as LeavingCoin}
-use Rattle.node_rules.specs.Kept.{kept_of, links_handed, standing_block}
+use Rattle.node_rules.specs.declared.refusal.WalletRefusal.TheVariants.{History, NotHeld, NotSending, NoLast, NotYet, Leaving as LeavingCoin}
 use Rattle.node_rules.specs.WalletRecords.{Accepts, Reclaims, note_text, leaves_in}
 use Rattle.node_rules.specs.Wallet.{WalletRecords, WalletEffect, answers, notes_it, unless, who, noted, coin_state, accept_causes, is_known, accept_by, accept_effect, send_causes, send_body, send_from, send_effect, last_of, reclaim_shown, reclaim_last, reclaim_from, reclaim_by, reclaim_effect, standing_causes}
 use Rattle.node_rules.specs.WalletCommandLaws.{sent_body}
 use Rattle.node_journal.specs.Effect.{first_cause}
 use Rattle.coin_history.specs.Checking.{absence_of}
-use Rattle.plasma_tx.specs.Shown.{tests_by}
 use Rattle.plasma_tx.specs.Views.{blocks}
 
 -- ---- accept
@@ -61,14 +53,7 @@ accept_ends dig wallet log bytes = at (links_handed dig (who wallet).tag log byt
     by links handed mine mine_is (Some why) failed_is known known_is = Refused why refl
     by links handed true mine_is None failed_is true known_is = Known links handed mine_is known_is refl
     by links handed true mine_is None failed_is false known_is = New links handed refl
-    by links handed false mine_is None failed_is known known_is =
-        let causes : List (Bool × WalletRefusal) = accept_causes notes.me log links in
-        absurd (cc (sym failed_is
-        ∙ ap (λ (b : Bool). if not b then Some NotMine else first_cause (rest_of causes)) mine_is))
-      where
-        rest_of : List (Bool × WalletRefusal) → List (Bool × WalletRefusal)
-        rest_of [] = []
-        rest_of (cause ∷ causes) = causes
+    by links handed false mine_is None failed_is known known_is = grind (arith, common_steps) steps 20000
 
     at : (handed : Result Links HistoryRefusal) → links_handed dig (who wallet).tag log bytes ≡ handed
         → AcceptEnds dig wallet log bytes (accept_by log notes handed)
@@ -100,10 +85,9 @@ send_ends dig wallet log coin to last = at (coin_state dig wallet log coin) refl
 
     at : (state : CoinState) → coin_state dig wallet log coin ≡ state
         → SendEnds dig wallet log coin to last (send_from wallet log coin to last state)
-    at Nothing is = Refused NotHeld refl
-    at (Sending tip q) is = Refused NotHeld refl
     at (Leaving tip) is = Refused LeavingCoin refl
     at (Held tip) is = by tip is (first_cause (send_causes wallet log last))
+    at state is = Refused NotHeld refl
 
 -- ---- reclaim
 
@@ -140,11 +124,9 @@ reclaim_ends dig wallet log bytes = at (bundle_in bytes)
     last_is bundle taken (Some last) = late bundle taken last (nat_lt (blocks log) last)
 
     by : (bundle : Bundle) (state : CoinState) → ReclaimEnds (reclaim_from dig wallet log bundle state)
-    by bundle Nothing = Refused NotSending refl
-    by bundle (Leaving tip) = Refused NotSending refl
-    by bundle (Held tip) = Refused NotSending refl
     by bundle (Sending tip q) =
         last_is bundle (record { coin = bundle.coin; tip = tip; q = q }) (last_of (leaves_in wallet.leaves) q)
+    by bundle state = Refused NotSending refl
 
     at : (read : Result Bundle HistoryRefusal) → ReclaimEnds (reclaim_by dig wallet log read)
     at (Err why) = Refused (History why) refl
