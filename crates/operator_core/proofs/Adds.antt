@@ -1,26 +1,8 @@
 -- What a command's record does to what the records leave.
-use Rattle.std.proofs.Common.{◌≡◌, ℕ, ◌^◌, ◌<◌, true, false, List, [], ◌∷◌, ◌++◌, length, length-append, Some, None, Ok, Err, refl, sym, ap, ◌∙◌, arith}
-use Rattle.std.specs.Prelude.{nat_lt, ◌≤◌}
-use Rattle.std.proofs.lemmas.Bool.{le-ltb, lt-ltb}
-use Rattle.std.proofs.lemmas.List.Elements.{All-push}
-use Rattle.std.proofs.lemmas.Grind.{common_steps}
-use Rattle.node_journal.specs.Effect.{only}
-use Rattle.gate_journal.specs.Image.{most}
-use Rattle.node_journal.specs.Role.{are_of}
-use Rattle.plasma_tx.specs.declared.call.RootCall.{RootCall}
-use Rattle.plasma_tx.specs.Spelling.{number_text}
+use Rattle.operator_core.proofs.Words.{◌≡◌, ℕ, ◌^◌, ◌<◌, true, false, List, [], ◌∷◌, ◌++◌, length, length-append, Some, None, Ok, Err, refl, sym, ap, ◌∙◌, arith, nat_lt, ◌≤◌, le-ltb, lt-ltb, All-push, common_steps, only, most, are_of, RootCall, number_text, Note, Offered, Laid, Sealed, note_text, operator_kinds, notes_of, coin_named, forest_of, forest_in, offer_effect, lay_effect, seal_effect, HashedMap, Stop, Who, lay_stop, PoolState, TreesState, FitJournal, IsRight, AddsRecord, lay_refusal, put_of, with_put}
 use Rattle.operator_rules.specs.declared.TheConstants.{MOST_LAID}
 use Rattle.operator_rules.specs.declared.refusal.LayRefusal.TheVariants.{LeafTooLong}
-use Rattle.operator_rules.specs.Records.{Note, Offered, Laid, Sealed, note_text, operator_kinds, notes_of}
-use Rattle.operator_rules.specs.Trees.{coin_named, forest_of}
-use Rattle.operator_rules.specs.Commands.{forest_in, offer_effect, lay_effect, seal_effect}
 use Rattle.operator_rules.proofs.Role.{commands_keep_the_role, commands_add_their_notes}
-use Rattle.merkle_pages.specs.Nodes.{HashedMap}
-use Rattle.node_journal.specs.declared.stop.Stop.{Stop}
-use Rattle.operator_core.specs.declared.records.Who.{Who}
-use Rattle.operator_core.specs.State.{lay_stop}
-use Rattle.operator_core.specs.Inside.{PoolState, TreesState, FitJournal, IsRight, AddsRecord, lay_refusal}
-use Rattle.operator_core.specs.Texts.{put_of, with_put}
 use Rattle.operator_core.proofs.Rebuilt.{with_put-is}
 
 -- ---- the record

@@ -1,31 +1,11 @@
 -- What an offer answers and adds.
-use Rattle.std.proofs.Common.{◌≡◌, ℕ, Bool, true, false, if◌then◌else◌, List, [], ◌∷◌, ◌≤◌, length, Option, Some, None, Result, Ok, Err, refl, ◌∙◌, arith}
-use Rattle.std.specs.Prelude.{MatchResult, is_some}
-use Rattle.std.specs.List.{AllByRecursion}
-use Rattle.std.proofs.lemmas.Grind.{common_steps}
-use Rattle.node_journal.specs.declared.stop.Stop.{Stop}
-use Rattle.node_journal.specs.Effect.{Effect, first_cause, unless}
-use Rattle.node_journal.specs.Role.{are_of}
-use Rattle.node_journal.specs.Notes.{NotesState, Did}
-use Rattle.crash_disk.specs.Disk.{History, FaultPlan}
+use Rattle.operator_core.proofs.Words.{◌≡◌, ℕ, Bool, true, false, if◌then◌else◌, List, [], ◌∷◌, ◌≤◌, length, Option, Some, None, Result, Ok, Err, refl, ◌∙◌, arith, MatchResult, is_some, AllByRecursion, common_steps, Stop, Effect, first_cause, unless, are_of, NotesState, Did, History, FaultPlan, TxRefusal, RootCall, CoinView, signed_in, blocks, coin_at, Offered, note_text, operator_kinds, who_is, Forest, coin_named, is_waiting, Place, present, forest_in, offer_causes, offer_at, offer_of, offer_effect, offer_stop, AddsRecord, offer_refusal, has_its_coin}
 use Rattle.plasma_tx.specs.declared.signed_tx.SignedTx.{SignedTx}
-use Rattle.plasma_tx.specs.declared.signed_tx.TxRefusal.{TxRefusal}
-use Rattle.plasma_tx.specs.declared.call.RootCall.{RootCall}
-use Rattle.plasma_tx.specs.declared.views.CoinView.{CoinView}
-use Rattle.plasma_tx.specs.Spelling.{signed_in}
-use Rattle.plasma_tx.specs.Views.{blocks, coin_at}
 use Rattle.operator_rules.specs.declared.refusal.OfferRefusal.{OfferRefusal}
 use Rattle.operator_rules.specs.declared.refusal.OfferRefusal.TheVariants.{NoMemory as NoMemoryOffer}
-use Rattle.operator_rules.specs.Records.{Offered, note_text, operator_kinds, who_is}
-use Rattle.operator_rules.specs.Trees.{Forest, coin_named, is_waiting}
-use Rattle.operator_rules.specs.Walk.{Place, present}
-use Rattle.operator_rules.specs.Commands.{forest_in, offer_causes, offer_at, offer_of, offer_effect}
 use Rattle.operator_rules.proofs.Trees.{coin-named}
 use Rattle.operator_rules.proofs.Run.{offerable}
 use Rattle.operator_rules.proofs.Openings.{leaf-short}
-use Rattle.operator_core.specs.State.{offer_stop}
-use Rattle.operator_core.specs.Inside.{AddsRecord, offer_refusal}
-use Rattle.operator_core.specs.Known.{has_its_coin}
 use Rattle.operator_core.proofs.Adds.{adds_offered}
 
 pub offer_stop-refusal : (stop : Stop) → offer_stop (Err (offer_refusal stop)) ≡ Some stop

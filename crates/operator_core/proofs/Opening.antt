@@ -1,15 +1,10 @@
 -- Openings and beginnings that are given up for want of memory.
-use Rattle.std.proofs.Common.{◌≡◌, ℕ, List, [], length, Option, Some, None, option_map, Result, Err, refl, inl, arith}
-use Rattle.std.proofs.lemmas.Grind.{common_steps}
-use Rattle.crash_disk.specs.Disk.{Step, History, content, FaultPlan}
+use Rattle.operator_core.proofs.Words.{◌≡◌, ℕ, List, [], length, Option, Some, None, option_map, Result, Err, refl, inl, arith, common_steps, Step, History, content, FaultPlan, Inits, BeginsPair, NotesState, Opened, RefusesRole, FitJournal}
 use Rattle.crash_disk.specs.Calls.{passed, stopped_after, after_course, Made}
 use Rattle.crash_disk.proofs.Calls.{made_stop}
 use Rattle.gate_journal.specs.declared.refusal.JournalRefusal.TheVariants.{NotJournal, NoMemory as JournalNoMemory}
 use Rattle.gate_journal.specs.declared.refusal.InitRefusal.TheVariants.{NoMemory}
-use Rattle.node_journal.specs.Begin.{Inits, BeginsPair}
-use Rattle.node_journal.specs.Notes.{NotesState, Opened, RefusesRole}
 use Rattle.gate_journal.specs.Steps.{open_steps}
-use Rattle.operator_core.specs.Inside.{FitJournal}
 
 pub given_up : {D : Type 0} (told : D → Option History) (plan : D → Option FaultPlan) (faults : D → ℕ)
     (read : List ℕ → Result (List (List ℕ)) ℕ) (old : D) (new : NotesState D)

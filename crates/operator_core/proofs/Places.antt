@@ -1,18 +1,6 @@
 -- The sealed trees, and the index of their roots.
-use Rattle.std.proofs.Common.{◌≡◌, ℕ, zero, suc, ◌+◌, ◌<◌, ◌||◌, Bool, true, false, List, [], ◌∷◌, ◌++◌, length, find, if◌then◌else◌, Option, Some, None, is_some, option_map, IfSome, Bor, refl, sym, ap, ◌∙◌, inl, inr, arith, get_or}
-use Rattle.std.specs.List.{All, AllByRecursion, list_any, position_from, slice_get}
+use Rattle.operator_core.proofs.Words.{◌≡◌, ℕ, zero, suc, ◌+◌, ◌<◌, ◌||◌, Bool, true, false, List, [], ◌∷◌, ◌++◌, length, find, if◌then◌else◌, Option, Some, None, is_some, option_map, IfSome, Bor, refl, sym, ap, ◌∙◌, inl, inr, arith, get_or, All, AllByRecursion, list_any, position_from, slice_get, bytes_eq, cases_Bool, true≢false, get_or-map, length-map, map-append, All-append, All-cons, All-nil, recursion_from_All, bytes_eq-Decides, common_steps, Entry, root_of, HashedMap, tree_of, entries_of, with_place, KeepsTrees}
 use Rattle.std.specs.HashMap.{HashMap, get, Updates}
-use Rattle.std.specs.Str.{bytes_eq}
-use Rattle.std.proofs.lemmas.Bool.{cases_Bool, true≢false}
-use Rattle.std.proofs.lemmas.List.{get_or-map, length-map, map-append}
-use Rattle.std.proofs.lemmas.List.Elements.{All-append, All-cons, All-nil, recursion_from_All}
-use Rattle.std.proofs.lemmas.Slice.Eq.{bytes_eq-Decides}
-use Rattle.std.proofs.lemmas.Grind.{common_steps}
-use Rattle.sparse_merkle.specs.declared.tree.Entry.{Entry}
-use Rattle.sparse_merkle.specs.TreeDigest.{root_of}
-use Rattle.merkle_pages.specs.Nodes.{HashedMap}
-use Rattle.operator_rules.specs.Trees.{tree_of}
-use Rattle.operator_core.specs.Inside.{entries_of, with_place, KeepsTrees}
 
 -- ---- the first that passes
 

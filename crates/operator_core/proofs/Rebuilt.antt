@@ -1,13 +1,6 @@
 -- What records leave, a record at a time.
-use Rattle.std.proofs.Common.{◌≡◌, ℕ, ◌+◌, ◌<◌, List, [], ◌∷◌, ◌++◌, length, get_or, take, arith}
+use Rattle.operator_core.proofs.Words.{◌≡◌, ℕ, ◌+◌, ◌<◌, List, [], ◌∷◌, ◌++◌, length, get_or, take, arith, reverse-append, take_more, filter_map-append, common_steps, Note, note_in, Forest, forest_of, after_note, notes_among, put_of, with_put, changed}
 use Rattle.std.specs.Option.{option_map}
-use Rattle.std.proofs.lemmas.List.{reverse-append, take_more}
-use Rattle.std.proofs.lemmas.List.Elements.{filter_map-append}
-use Rattle.std.proofs.lemmas.Grind.{common_steps}
-use Rattle.operator_rules.specs.Records.{Note, note_in}
-use Rattle.operator_rules.specs.Trees.{Forest, forest_of, after_note}
-use Rattle.operator_core.specs.Inside.{notes_among}
-use Rattle.operator_core.specs.Texts.{put_of, with_put, changed}
 
 pub with_put-is : (note : Note) (forest : Forest) → with_put (put_of note) forest ≡ after_note note forest
 with_put-is note forest = grind (arith, common_steps) steps 20000

@@ -1,23 +1,7 @@
 -- The leaves of a pool and of sealed trees fit a journal's record, as the records do that they come from.
-use Rattle.std.proofs.Common.{◌≡◌, ℕ, ◌≤◌, ◌==◌, ◌&&◌, true, false, if◌then◌else◌, List, [], ◌∷◌, ◌++◌, length, drop, Option, Some, None, sym, subst, append-nil, append_assoc, length-drop, arith}
-use Rattle.std.specs.Prelude.{IfSome, nat_le}
+use Rattle.operator_core.proofs.Words.{◌≡◌, ℕ, ◌≤◌, ◌==◌, ◌&&◌, true, false, if◌then◌else◌, List, [], ◌∷◌, ◌++◌, length, drop, Option, Some, None, sym, subst, append-nil, append_assoc, length-drop, arith, IfSome, nat_le, cases_eq, All-head, All-tail, common_steps, most, Entry, leaf_of, with_leaf, leaf_of-with_leaf, leaf_of-with_other, RootCall, number_at, Note, Offered, Laid, Sealed, note_in, notes_of, who_is, spells_transfer, Forest, forest_of, after_note, tree_of, tree_at, coin_named, forest_in, Who, PoolState, TreesState, FitJournal, HasShortLeaves, AreShortTrees, IsRight, notes_among, put_of, changed}
 use Rattle.std.specs.Option.{option_map}
-use Rattle.std.proofs.lemmas.Bool.{cases_eq}
-use Rattle.std.proofs.lemmas.List.Elements.{All-head, All-tail}
-use Rattle.std.proofs.lemmas.Grind.{common_steps}
-use Rattle.gate_journal.specs.Image.{most}
-use Rattle.sparse_merkle.specs.declared.tree.Entry.{Entry}
-use Rattle.sparse_merkle.specs.TreeDigest.{leaf_of, with_leaf}
-use Rattle.sparse_merkle.proofs.TreeLaws.{leaf_of-with_leaf, leaf_of-with_other}
-use Rattle.plasma_tx.specs.declared.call.RootCall.{RootCall}
-use Rattle.plasma_tx.specs.Spelling.{number_at}
 use Rattle.plasma_tx.proofs.Each.{all-append, all-found}
-use Rattle.operator_rules.specs.Records.{Note, Offered, Laid, Sealed, note_in, notes_of, who_is, spells_transfer}
-use Rattle.operator_rules.specs.Trees.{Forest, forest_of, after_note, tree_of, tree_at, coin_named}
-use Rattle.operator_rules.specs.Commands.{forest_in}
-use Rattle.operator_core.specs.declared.records.Who.{Who}
-use Rattle.operator_core.specs.Inside.{PoolState, TreesState, FitJournal, HasShortLeaves, AreShortTrees, IsRight, notes_among}
-use Rattle.operator_core.specs.Texts.{put_of, changed}
 use Rattle.operator_core.proofs.Rebuilt.{with_put-is, forest-push}
 
 -- the leaf that a note puts fits

@@ -1,16 +1,9 @@
 -- Records as bytes.
-use Rattle.std.proofs.Common.{◌≡◌, ◌≤◌, ℕ, true, false, List, [], ◌++◌, length, Some, None, Result, Ok, Err, refl, ◌∙◌, ap, inl, inr, arith, append_assoc}
-use Rattle.std.specs.Prelude.{slice_range}
+use Rattle.operator_core.proofs.Words.{◌≡◌, ◌≤◌, ℕ, true, false, List, [], ◌++◌, length, Some, None, Result, Ok, Err, refl, ◌∙◌, ap, inl, inr, arith, append_assoc, slice_range, cases_Bool, common_steps, TxRefusal, signed_in, body_in, has_second_mark, spells_transfer, offered_coin}
 use Rattle.std.specs.Result.{is_ok}
-use Rattle.std.proofs.lemmas.Bool.{cases_Bool}
-use Rattle.std.proofs.lemmas.Grind.{common_steps}
 use Rattle.plasma_tx.specs.declared.body.Body.{Body}
-use Rattle.plasma_tx.specs.declared.signed_tx.TxRefusal.{TxRefusal}
-use Rattle.plasma_tx.specs.Spelling.{signed_in, body_in, has_second_mark}
 use Rattle.plasma_tx.proofs.Spellings.{Fits, body_in-ok}
 use Rattle.plasma_tx.proofs.Parts.{length-range}
-use Rattle.operator_rules.specs.Records.{spells_transfer}
-use Rattle.operator_core.specs.Texts.{offered_coin}
 
 -- a body is read where a signed transfer is
 pub read_same : (tag bytes : List ℕ) → spells_transfer tag bytes ≡ is_ok (body_in tag bytes)

@@ -1,11 +1,5 @@
 -- A leaf put back where another was put.
-use Rattle.std.proofs.Common.{◌≡◌, ◌≢◌, ℕ, List, [], ◌∷◌, ◌++◌, refl, inl, inr, append-nil, arith}
-use Rattle.std.proofs.lemmas.Bool.{cases_Bool, eq-eqb, ne_eqb, ltb-true, lt-ltb, le-ltb, cases_lt, cases_eq}
-use Rattle.std.proofs.lemmas.List.Elements.{filter-append}
-use Rattle.std.proofs.lemmas.Grind.{common_steps}
-use Rattle.sparse_merkle.specs.declared.tree.Entry.{Entry}
-use Rattle.sparse_merkle.proofs.TreeLaws.{leaf_of-with_leaf, leaf_of-with_other}
-use Rattle.sparse_merkle.specs.TreeDigest.{leaf_of, entry_of, with_leaf, IsMap}
+use Rattle.operator_core.proofs.Words.{◌≡◌, ◌≢◌, ℕ, List, [], ◌∷◌, ◌++◌, refl, inl, inr, append-nil, arith, cases_Bool, eq-eqb, ne_eqb, ltb-true, lt-ltb, le-ltb, cases_lt, cases_eq, filter-append, common_steps, Entry, leaf_of-with_leaf, leaf_of-with_other, leaf_of, entry_of, with_leaf, IsMap}
 use Rattle.merkle_pages.proofs.Rising.{low, high, AllAbove, above-less, low-above, high-above, IsRising, rising}
 
 -- ---- a second put at a coin

@@ -1,32 +1,13 @@
 -- Where walks ended.
-use Rattle.std.proofs.Common.{◌≡◌, ◌≢◌, ℕ, zero, suc, ◌+◌, ◌<◌, ◌≤◌, Bool, true, false, List, [], ◌∷◌, ◌++◌, length, find, get_or, Option, Some, None, is_some, refl, sym, ap, ◌∙◌, subst, inl, inr, arith}
-use Rattle.std.specs.Option.{option_and_then}
+use Rattle.operator_core.proofs.Words.{◌≡◌, ◌≢◌, ℕ, zero, suc, ◌+◌, ◌<◌, ◌≤◌, Bool, true, false, List, [], ◌∷◌, ◌++◌, length, find, get_or, Option, Some, None, is_some, refl, sym, ap, ◌∙◌, subst, inl, inr, arith, option_and_then, bytes_eq, cases_Bool, cases_lt, true≢false, get_or_append_left, get_or_push, bytes_eq-Decides, common_steps, Entry, root_of, RootCall, CoinView, root_at, blocks, tree_of, tree_at, place_at, place_of_tip, Follows, IsEnd, IsOnWay, KeepsEnds}
 use Rattle.std.specs.Ordering.{nat_cmp}
-use Rattle.std.specs.Str.{bytes_eq}
 use Rattle.std.specs.BTreeMap.{get}
-use Rattle.std.proofs.lemmas.Bool.{cases_Bool, cases_lt, true≢false}
-use Rattle.std.proofs.lemmas.List.{get_or_append_left, get_or_push}
-use Rattle.std.proofs.lemmas.Slice.Eq.{bytes_eq-Decides}
-use Rattle.std.proofs.lemmas.Grind.{common_steps}
-use Rattle.sparse_merkle.specs.declared.tree.Entry.{Entry}
-use Rattle.sparse_merkle.specs.TreeDigest.{root_of}
-use Rattle.plasma_tx.specs.declared.call.RootCall.{RootCall}
-use Rattle.plasma_tx.specs.declared.views.CoinView.{CoinView}
-use Rattle.plasma_tx.specs.Shown.{root_at}
-use Rattle.plasma_tx.specs.Views.{blocks}
-use Rattle.operator_rules.specs.Trees.{tree_of, tree_at}
-use Rattle.operator_rules.specs.Walk.{place_at}
 use Rattle.operator_core.specs.declared.ends.End.{End}
 use Rattle.operator_core.specs.declared.ends.Ends.{Ends}
-use Rattle.operator_core.specs.Tips.{place_of_tip}
-use Rattle.operator_core.specs.Walked.{Follows, IsEnd, IsOnWay, KeepsEnds}
 
 -- ---- the roots
 
 module _ (log : List RootCall) where
-  pub follows-none : (roots : List (Option (List ℕ))) → roots ≡ [] → Follows log roots
-  follows-none roots none = grind (arith, common_steps) steps 20000
-
   pub follows-more : (roots : List (Option (List ℕ))) (root : Option (List ℕ)) (n : ℕ) → length roots ≡ n
       → root ≡ root_at log (n + 1) → Follows log roots → Follows log (roots ++ root ∷ [])
   follows-more roots root n long is follows = record {

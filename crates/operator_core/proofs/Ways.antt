@@ -1,33 +1,13 @@
 -- The committed blocks one after another.
-use Rattle.std.proofs.Common.{◌≡◌, ℕ, zero, suc, ◌+◌, ◌-◌, ◌<◌, ◌≤◌, ◌^◌, not, Bool, true, false, if◌then◌else◌, List, [], ◌∷◌, ◌++◌, length, Option, Some, None, Result, Ok, Err, refl, sym, ap, ◌∙◌, inl, inr, arith, append-nil}
-use Rattle.std.specs.List.{range_with_len, All, AllPairs}
-use Rattle.std.specs.Option.{option_and_then}
-use Rattle.std.proofs.lemmas.List.{get_or-map, length-map}
+use Rattle.operator_core.proofs.Words.{◌≡◌, ℕ, zero, suc, ◌+◌, ◌-◌, ◌<◌, ◌≤◌, ◌^◌, Bool, true, false, if◌then◌else◌, List, [], ◌∷◌, ◌++◌, length, Option, Some, None, Result, Ok, Err, refl, sym, ap, ◌∙◌, inl, inr, arith, append-nil, range_with_len, All, AllPairs, option_and_then, get_or-map, length-map, is_some, OnErr, cases_lt, cases_eq, lt-ltb, le-ltb, eq-eqb, ne_eqb, eqb-true, or_cases, or_right, and_parts, filter-append, All-nil, All-push, common_steps, Entry, leaf_of, RootCall, CoinView, root_at, transfer_in, blocks, is_committed, committed_blocks, blocks_of, tree_at, tree_of, Place, start_of, moved_by, transfer_at, place_at, present, prove_by, with_opening, openings_of, tip_asked, is_known, first_is_known, one_is_known, is_begun}
 use Rattle.std.proofs.lemmas.List.FromFn.{length-range_with_len, get_or-range_with_len}
-use Rattle.std.proofs.lemmas.List.Filters.{length-filter_both}
 use Rattle.std.proofs.lemmas.List.Kept.{AllPairs-filter}
-use Rattle.std.specs.Prelude.{is_some, OnErr}
-use Rattle.std.proofs.lemmas.Bool.{cases_lt, cases_eq, lt-ltb, le-ltb, eq-eqb, ne_eqb, eqb-true, or_cases, or_right, and_parts}
-use Rattle.std.proofs.lemmas.List.Elements.{filter-append, All-nil, All-push}
-use Rattle.std.proofs.lemmas.Grind.{common_steps}
-use Rattle.sparse_merkle.specs.declared.tree.Entry.{Entry}
-use Rattle.sparse_merkle.specs.TreeDigest.{leaf_of}
 use Rattle.plasma_tx.specs.declared.opening.RawOpening.{RawOpening}
-use Rattle.plasma_tx.specs.declared.call.RootCall.{RootCall}
-use Rattle.plasma_tx.specs.declared.views.CoinView.{CoinView}
-use Rattle.plasma_tx.specs.Shown.{root_at}
-use Rattle.plasma_tx.specs.Transfer.{transfer_in}
-use Rattle.plasma_tx.specs.Views.{blocks}
-use Rattle.coin_history.specs.History.{is_committed, committed_blocks, blocks_of}
 use Rattle.coin_history.specs.Bundles.{AreRising}
 use Rattle.coin_history.specs.Checking.{may_be_tip}
 use Rattle.coin_history.proofs.HistoryGrow.{committed-le}
 use Rattle.operator_rules.specs.declared.refusal.ProveRefusal.{ProveRefusal}
-use Rattle.operator_rules.specs.Trees.{tree_at, tree_of}
-use Rattle.operator_rules.specs.Walk.{Place, start_of, moved_by, transfer_at, place_at, present}
 use Rattle.operator_rules.proofs.Places.{transfer_at-idle}
-use Rattle.operator_rules.specs.Commands.{prove_by, with_opening, openings_of, tip_asked}
-use Rattle.operator_core.specs.Known.{is_known, first_is_known, one_is_known, is_begun}
 
 -- a fact of an error that is passed on
 pub on_err : {T E : Type 0} (result : Result T E) {P : Type 0} → P → OnErr result P
@@ -299,9 +279,6 @@ module _ (dig : List ℕ → List ℕ) (log : List RootCall) (sealed : List (Lis
 
 -- ---- openings are few, and short
 
-pub within_blocks : (log : List RootCall) (n : ℕ) → is_committed log n ≡ true → n ≤ blocks log
-within_blocks = committed-le
-
 abbrev AreShort : List RawOpening → Type 0
 AreShort openings = All (λ opening. length opening.bytes < 2 ^ 32) openings
 
@@ -337,22 +314,6 @@ module _ (dig : List ℕ → List ℕ) (log : List RootCall) (sealed : List (Lis
       openings is in
       ap (λ (os : List RawOpening). blocks_of os) (sym p.whole)
       ∙ (λ i. opening-block n (tree_at dig log sealed n) p.first p.first_is i ∷ blocks-are ns p.rest p.rest_is i)
-
-  pub few_openings : (after last : ℕ) (openings : List RawOpening)
-      → openings_of dig log sealed coin (committed_blocks log after last) ≡ Ok openings → length openings ≤ last
-  unfolding committed_blocks
-  few_openings after last openings is =
-      let blocks-is = blocks-are (committed_blocks log after last) openings is in
-      let long : length (blocks_of openings) ≡ length (committed_blocks log after last) =
-      ap (λ (ns : List ℕ). length ns) blocks-is in
-      omega (
-        arith,
-        long,
-        length-map openings (λ (opening : RawOpening). opening.block),
-        length-filter_both (is_committed log) (λ n. not (is_committed log n)) (λ n. refl)
-            (range_with_len (after + 1) (last - after)),
-        length-range_with_len (after + 1) (last - after),
-      )
 
   pub between_rise : (after last : ℕ) (openings : List RawOpening)
       → openings_of dig log sealed coin (committed_blocks log after last) ≡ Ok openings → AreRising openings

@@ -1,7 +1,4 @@
-use Rattle.std.proofs.Common.{◌≡◌, ◌+◌, ℕ, None, get_or, sym, ap, ◌∙◌, inl, inr, arith}
-use Rattle.std.proofs.lemmas.Bool.{cases_lt}
-use Rattle.std.proofs.lemmas.List.{get_or_default}
-use Rattle.plasma_tx.specs.Shown.{root_at}
+use Rattle.operator_core.proofs.Words.{◌≡◌, ◌+◌, ℕ, None, get_or, sym, ap, ◌∙◌, inl, inr, arith, cases_lt, get_or_default, root_at}
 use Rattle.operator_core.proofs.ends.are_followed.Goals as goal
 
 pub way-init : goal.way-init

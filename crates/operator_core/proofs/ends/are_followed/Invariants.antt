@@ -1,5 +1,4 @@
-use Rattle.std.proofs.Common.{◌≡◌, ◌<◌, ◌+◌, ℕ, get_or, None}
-use Rattle.plasma_tx.specs.Shown.{root_at}
+use Rattle.operator_core.proofs.Words.{◌≡◌, ◌<◌, ◌+◌, ℕ, get_or, None, root_at}
 use Rattle.operator_core.proofs.ends.are_followed.Given as goal
 
 abbrev pub invariant-way : goal.invariant-way

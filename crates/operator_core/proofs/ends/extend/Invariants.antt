@@ -1,6 +1,4 @@
-use Rattle.std.proofs.Common.{◌≡◌, ℕ, List, length}
-use Rattle.sparse_merkle.specs.declared.tree.Entry.{Entry}
-use Rattle.operator_core.specs.Walked.{Follows, KeepsEnds}
+use Rattle.operator_core.proofs.Words.{◌≡◌, ℕ, List, length, Entry, Follows, KeepsEnds}
 use Rattle.operator_core.proofs.ends.extend.Given as goal
 
 abbrev pub invariant-way : goal.invariant-way

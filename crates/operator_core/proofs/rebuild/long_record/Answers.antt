@@ -1,8 +1,4 @@
-use Rattle.std.proofs.Common.{◌≡◌, ◌≤◌, ℕ, List, length, take, get_or, sym, subst, arith}
-use Rattle.std.proofs.lemmas.List.{take_all, take_more}
-use Rattle.std.proofs.lemmas.List.Elements.{All-nil, All-push}
-use Rattle.gate_journal.specs.Image.{most}
-use Rattle.operator_core.specs.Inside.{FitJournal}
+use Rattle.operator_core.proofs.Words.{◌≡◌, ◌≤◌, ℕ, List, length, take, get_or, sym, subst, arith, take_all, take_more, All-nil, All-push, most, FitJournal}
 use Rattle.operator_core.proofs.rebuild.long_record.Goals as goal
 
 pub records-init : goal.records-init

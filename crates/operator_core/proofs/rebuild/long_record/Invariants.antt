@@ -1,5 +1,4 @@
-use Rattle.std.proofs.Common.{take}
-use Rattle.operator_core.specs.Inside.{FitJournal}
+use Rattle.operator_core.proofs.Words.{take, FitJournal}
 use Rattle.operator_core.proofs.rebuild.long_record.Given as goal
 
 abbrev pub invariant-records : goal.invariant-records

@@ -1,8 +1,4 @@
-use Rattle.std.proofs.Common.{◌≡◌, List, ℕ, drop, ◌∙◌, ap}
-use Rattle.operator_rules.specs.Records.{notes_of, Identity}
-use Rattle.operator_rules.specs.Trees.{Forest, forest_of}
-use Rattle.operator_rules.specs.Commands.{forest_in}
-use Rattle.operator_core.specs.Inside.{forest_now, notes_among}
+use Rattle.operator_core.proofs.Words.{◌≡◌, List, ℕ, drop, ◌∙◌, ap, notes_of, Identity, Forest, forest_of, forest_in, forest_now, notes_among}
 use Rattle.operator_core.proofs.rebuild.read_records.Goals as goal
 
 pub returns : goal.returns

@@ -1,10 +1,4 @@
-use Rattle.std.proofs.Common.{◌≡◌, [], List, take, option_map, refl, ◌∙◌, ap, sym, arith}
-use Rattle.std.specs.Option.{unwrap_or}
-use Rattle.std.proofs.lemmas.List.{take_all}
-use Rattle.operator_rules.specs.Records.{note_in}
-use Rattle.operator_rules.specs.Trees.{Forest, forest_of}
-use Rattle.operator_core.specs.Inside.{forest_now}
-use Rattle.operator_core.specs.Texts.{put_of, changed}
+use Rattle.operator_core.proofs.Words.{◌≡◌, [], List, take, option_map, refl, ◌∙◌, ap, sym, arith, unwrap_or, take_all, note_in, Forest, forest_of, forest_now, put_of, changed}
 use Rattle.operator_core.proofs.Rebuilt.{forest-more}
 use Rattle.operator_core.proofs.rebuild.rebuild.Goals as goal
 

@@ -1,7 +1,4 @@
-use Rattle.std.proofs.Common.{◌≡◌, [], take}
-use Rattle.std.specs.Option.{unwrap_or}
-use Rattle.operator_rules.specs.Trees.{forest_of}
-use Rattle.operator_core.specs.Inside.{forest_now, notes_among}
+use Rattle.operator_core.proofs.Words.{◌≡◌, [], take, unwrap_or, forest_of, forest_now, notes_among}
 use Rattle.operator_core.proofs.rebuild.rebuild.Given as goal
 
 abbrev pub invariant-records : goal.invariant-records

@@ -1,6 +1,5 @@
 use Rattle.std.proofs.Common.{◌≡◌, ◌<◌, ◌≤◌, ◌^◌, length, All, Ok}
-use Rattle.coin_history.specs.History.{committed_blocks}
-use Rattle.operator_rules.specs.Commands.{openings_of}
+use Rattle.operator_core.proofs.Words.{committed_blocks, openings_of}
 use Rattle.operator_core.proofs.showing.openings_between.Given as goal
 
 abbrev pub invariant-way : goal.invariant-way

@@ -1,10 +1,7 @@
 -- Where the tree has no leaf of the coin the place stays, since an empty leaf spells no transfer.
-use Rattle.std.proofs.Common.{◌≡◌, List, [], ℕ, sym, ap, ◌∙◌}
-use Rattle.plasma_tx.specs.Transfer.{transfer_in}
+use Rattle.operator_core.proofs.Words.{◌≡◌, List, [], ℕ, sym, ap, ◌∙◌, transfer_in, moved_by, place_of_tip}
 use Rattle.plasma_tx.proofs.Leaves.{empty-none}
 use Rattle.coin_history.proofs.CheckFacts.{empty-from, empty-is}
-use Rattle.operator_rules.specs.Walk.{moved_by}
-use Rattle.operator_core.specs.Tips.{place_of_tip}
 use Rattle.operator_core.proofs.walk.after_tree.Goals as goal
 
 pub returns-then-is_empty-clause-value : goal.returns-then-is_empty-clause-value

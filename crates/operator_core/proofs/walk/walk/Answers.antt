@@ -1,7 +1,4 @@
-use Rattle.std.proofs.Common.{sym, ap, ◌∙◌, arith}
-use Rattle.plasma_tx.specs.Views.{blocks}
-use Rattle.operator_rules.specs.Trees.{tree_of}
-use Rattle.operator_core.specs.Tips.{place_of_tip}
+use Rattle.operator_core.proofs.Words.{sym, ap, ◌∙◌, arith, blocks, tree_of, place_of_tip}
 use Rattle.operator_core.proofs.Ways.{place-rooted, place-idle, place-last, walk_knows, on_err}
 use Rattle.operator_core.proofs.walk.walk.Goals as goal
 use Rattle.operator_core.proofs.walk.walk.Goals.{in-Some+in_ok-tip, in_default}

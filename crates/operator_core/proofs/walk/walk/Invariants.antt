@@ -1,8 +1,4 @@
-use Rattle.std.proofs.Common.{◌≡◌, ◌<◌, ◌≤◌, option_map}
-use Rattle.plasma_tx.specs.Views.{blocks}
-use Rattle.operator_rules.specs.Trees.{tree_of}
-use Rattle.operator_rules.specs.Walk.{place_at}
-use Rattle.operator_core.specs.Tips.{place_of_tip}
+use Rattle.operator_core.proofs.Words.{◌≡◌, ◌<◌, ◌≤◌, option_map, blocks, tree_of, place_at, place_of_tip}
 use Rattle.operator_core.proofs.walk.walk.Given as goal
 
 abbrev pub invariant-way : goal.invariant-way

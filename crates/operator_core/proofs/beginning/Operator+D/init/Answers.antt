@@ -1,6 +1,4 @@
-use Rattle.std.proofs.Common.{None}
-use Rattle.node_journal.specs.Begin.{init_steps}
-use Rattle.operator_rules.specs.Records.{identity_text}
+use Rattle.operator_core.proofs.Words.{None, init_steps, identity_text}
 use Rattle.operator_core.proofs.Opening.{no_init}
 use Rattle.operator_core.proofs.beginning.Operator+D.init.Goals as goal
 

@@ -1,5 +1,4 @@
-use Rattle.std.proofs.Common.{Some}
-use Rattle.operator_rules.specs.Records.{identity_text}
+use Rattle.operator_core.proofs.Words.{Some, identity_text}
 use Rattle.operator_core.proofs.Opening.{no_pair}
 use Rattle.operator_core.proofs.beginning.Operator+D.init_with_key.Goals as goal
 

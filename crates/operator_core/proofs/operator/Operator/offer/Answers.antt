@@ -1,5 +1,4 @@
-use Rattle.std.proofs.Common.{sym, ap, ◌∙◌}
-use Rattle.operator_rules.specs.Commands.{offer_effect}
+use Rattle.operator_core.proofs.Words.{sym, ap, ◌∙◌, offer_effect}
 use Rattle.operator_core.proofs.Offers.{offer_stop-refusal, offered_note, offered_adds, offered_there, refused_note, did_refused}
 use Rattle.operator_core.proofs.operator.Operator.offer.Goals as goal
 

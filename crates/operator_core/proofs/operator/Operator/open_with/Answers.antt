@@ -1,5 +1,4 @@
-use Rattle.node_journal.specs.Role.{role_in}
-use Rattle.operator_rules.specs.Records.{operator_kinds}
+use Rattle.operator_core.proofs.Words.{role_in, operator_kinds}
 use Rattle.operator_core.proofs.Opening.{not_long}
 use Rattle.operator_core.proofs.operator.Operator.open_with.Goals as goal
 

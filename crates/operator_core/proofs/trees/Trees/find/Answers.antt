@@ -1,6 +1,5 @@
 use Rattle.operator_core.proofs.Places.{no_tree, has_tree, found_is}
-use Rattle.operator_rules.specs.Trees.{tree_of}
-use Rattle.operator_core.specs.Inside.{entries_of}
+use Rattle.operator_core.proofs.Words.{tree_of, entries_of}
 use Rattle.operator_core.proofs.trees.Trees.find.Goals as goal
 
 pub returns-in_err-place-clause-found : goal.returns-in_err-place-clause-found

@@ -1,5 +1,4 @@
-use Rattle.std.proofs.Common.{◌∙◌}
-use Rattle.operator_core.specs.Inside.{is_outside}
+use Rattle.operator_core.proofs.Words.{◌∙◌, is_outside}
 use Rattle.operator_core.proofs.Places.{any-same}
 use Rattle.operator_core.proofs.trees.Trees.has_outside.Goals as goal
 

@@ -1,9 +1,4 @@
-use Rattle.std.proofs.Common.{◌≡◌, ◌++◌, ◌∷◌, [], List, length, sym, ap, subst}
-use Rattle.std.proofs.lemmas.List.{map-append}
-use Rattle.merkle_pages.specs.Nodes.{HashedMap}
-use Rattle.sparse_merkle.specs.declared.tree.Entry.{Entry}
-use Rattle.operator_core.specs.Inside.{entries_of}
-use Rattle.operator_core.specs.Walked.{KeepsEnds}
+use Rattle.operator_core.proofs.Words.{◌≡◌, ◌++◌, ◌∷◌, [], List, length, sym, ap, subst, map-append, HashedMap, Entry, entries_of, KeepsEnds}
 use Rattle.operator_core.proofs.Places.{pushed, tree_known}
 use Rattle.operator_core.proofs.trees.Trees.push.Goals as goal
 
