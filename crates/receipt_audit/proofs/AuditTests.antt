@@ -1,19 +1,5 @@
 -- The answer of an audit, by what its tests say.
-use Rattle.std.proofs.Common.{◌≡◌, ℕ, ◌<◌, ◌≤◌, ◌-◌, not, Bool, true, false, if◌then◌else◌, List, length, take, drop, Some, Err, refl, sym, ap, ◌∙◌}
-use Rattle.std.specs.Prelude.{Result, nat_lt}
-use Rattle.std.proofs.lemmas.Bool.{true≢false, lt-ltb, le-ltb}
-use Rattle.std.proofs.lemmas.List.{take_rest}
-use Rattle.lms_sign.specs.Types.{is_supported}
-use Rattle.lms_sign.specs.Valid.{types_of, is_valid}
-use Rattle.plasma_tx.specs.Chain.{Chain}
-use Rattle.plasma_tx.specs.Views.{blocks}
-use Rattle.coin_history.specs.Bundles.{bundle_in}
-use Rattle.receipt_audit.specs.declared.promise.Promise.{Promise}
-use Rattle.receipt_audit.specs.declared.audit.Conviction.{Conviction}
-use Rattle.receipt_audit.specs.declared.refusal.AuditRefusal.{AuditRefusal}
-use Rattle.receipt_audit.specs.declared.refusal.AuditRefusal.TheVariants.{BadKey, NotSigned, NotYet}
-use Rattle.receipt_audit.specs.Promises.{promise_in, promised_part, signature_part}
-use Rattle.receipt_audit.specs.Audit.{shown_by, audited, conviction_answer}
+use Rattle.receipt_audit.proofs.Words.{◌≡◌, ℕ, ◌<◌, ◌≤◌, ◌-◌, not, Bool, true, false, if◌then◌else◌, List, length, take, drop, Some, Err, refl, sym, ap, ◌∙◌, arith, Result, nat_lt, true≢false, lt-ltb, le-ltb, take_rest, common_steps, is_supported, types_of, is_valid, Chain, blocks, bundle_in, Promise, Conviction, AuditRefusal, NotSigned, NotYet, promise_in, promised_part, signature_part, shown_by, conviction_answer}
 
 passed : (test : Bool) (why : AuditRefusal) (further : Result Conviction AuditRefusal) → test ≡ false
     → (if test then Err why else further) ≡ further
@@ -48,31 +34,21 @@ module _ (dig : List ℕ → List ℕ) (chain : Chain) (key receipt bundle : Lis
 
   with-key : conviction_answer dig chain key receipt bundle ≡ key_answer
   unfolding conviction_answer
-  with-key =
-      ap (audited dig chain.log key receipt bundle) (sym is)
-      ∙ passed (not (is_supported (types_of key))) BadKey key_answer (ap not supported)
+  with-key = grind (arith, common_steps, passed) steps 20000
 
   pub unsigned-answer : is_valid key (promised_part receipt) (signature_part receipt) ≡ false
       → Err NotSigned ≡ conviction_answer dig chain key receipt bundle
-  unsigned-answer unsigned =
-      sym (with-key ∙ stopped (not (is_valid key (promised_part receipt) (signature_part receipt))) NotSigned
-      signed_answer (ap not unsigned))
+  unsigned-answer unsigned = grind (arith, common_steps, with-key, stopped) steps 20000
 
   with-signature : is_valid key (promised_part receipt) (signature_part receipt) ≡ true
       → conviction_answer dig chain key receipt bundle ≡ signed_answer
-  with-signature signed =
-      with-key ∙ passed (not (is_valid key (promised_part receipt) (signature_part receipt))) NotSigned
-      signed_answer (ap not signed)
+  with-signature signed = grind (arith, common_steps, with-key, passed) steps 20000
 
   pub early-answer : is_valid key (promised_part receipt) (signature_part receipt) ≡ true
       → blocks chain.log < promise.due → Err (NotYet promise.due) ≡ conviction_answer dig chain key receipt bundle
-  early-answer signed early =
-      sym (with-signature signed ∙ stopped (nat_lt (blocks chain.log) promise.due) (NotYet promise.due)
-      (shown_by dig chain.log promise (bundle_in bundle)) (lt-ltb (blocks chain.log) promise.due early))
+  early-answer signed early = grind (arith, common_steps, with-signature, stopped, lt-ltb) steps 20000
 
   pub due-answer : is_valid key (promised_part receipt) (signature_part receipt) ≡ true
       → promise.due ≤ blocks chain.log
       → shown_by dig chain.log promise (bundle_in bundle) ≡ conviction_answer dig chain key receipt bundle
-  due-answer signed due =
-      sym (with-signature signed ∙ passed (nat_lt (blocks chain.log) promise.due) (NotYet promise.due)
-      (shown_by dig chain.log promise (bundle_in bundle)) (le-ltb (blocks chain.log) promise.due due))
+  due-answer signed due = grind (arith, common_steps, with-signature, passed, le-ltb) steps 20000

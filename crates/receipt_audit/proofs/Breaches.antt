@@ -1,22 +1,7 @@
 -- The test of a bundle passes exactly what shows a breach.
-use Rattle.std.proofs.Common.{◌≡◌, ℕ, ◌<◌, ◌==◌, not, Bool, true, false, if◌then◌else◌, List, [], ◌∷◌, ◌++◌, Option, Some, None, Err, refl, sym, ap, ◌∙◌, subst, arith}
-use Rattle.std.specs.List.{AllByRecursion}
-use Rattle.std.proofs.lemmas.Bool.{eqb-true, eq-eqb, true≢false, false_from_ne_true, not-false}
-use Rattle.std.proofs.lemmas.List.Elements.{recursion_from_All, All-from_recursion}
-use Rattle.plasma_tx.specs.declared.opening.RawOpening.{RawOpening}
-use Rattle.plasma_tx.specs.declared.call.RootCall.{RootCall}
-use Rattle.plasma_tx.specs.Shown.{Tests}
-use Rattle.coin_history.specs.declared.refusal.HistoryRefusal.{HistoryRefusal}
-use Rattle.coin_history.specs.declared.refusal.HistoryRefusal.TheVariants.{UnknownBlock, NotAbsent}
-use Rattle.coin_history.specs.Bundles.{AreRising}
-use Rattle.coin_history.specs.History.{opens_block}
-use Rattle.coin_history.specs.Checking.{is_asked, opening_at, missing, opening_causes, lowest_failure, above, unless_failed}
-use Rattle.coin_history.proofs.HistoryOpenings.{lowest-none, lowest-none_from, up-rising, each-found, found-each, above-block, found-below, asked-parts, AreAsked, are-asked, blocks-from_asked, asked-from_blocks, found-block}
+use Rattle.receipt_audit.proofs.Words.{◌≡◌, ℕ, ◌<◌, ◌==◌, Bool, true, false, List, [], ◌∷◌, Some, None, refl, sym, ap, ◌∙◌, subst, arith, AllByRecursion, eqb-true, eq-eqb, true≢false, false_from_ne_true, not-false, recursion_from_All, common_steps, RawOpening, RootCall, Tests, UnknownBlock, AreRising, opens_block, is_asked, opening_at, missing, lowest_failure, above, lowest-none, lowest-none_from, up-rising, each-found, found-each, above-block, found-below, asked-parts, AreAsked, are-asked, blocks-from_asked, asked-from_blocks, found-block, Promise, is_kept, failure_of_breach, breach_of, OnlyBreachesPass, BreachesPass}
 use Rattle.coin_history.proofs.HistoryLinks.{every-weaker}
 use Rattle.coin_history.proofs.HistoryFound.{causes-none, none-causes, missing-none, answered}
-use Rattle.receipt_audit.specs.declared.promise.Promise.{Promise}
-use Rattle.receipt_audit.specs.Audit.{is_kept, failure_of_breach, breach_of}
-use Rattle.receipt_audit.specs.Laws.{OnlyBreachesPass, BreachesPass}
 
 -- nothing is wrong with an opening of a breach
 pub record IsUnkept (tests : Tests) (dig : List ℕ → List ℕ) (log : List RootCall) (promise : Promise)
@@ -28,23 +13,11 @@ pub record IsUnkept (tests : Tests) (dig : List ℕ → List ℕ) (log : List Ro
 module _ (tests : Tests) (dig : List ℕ → List ℕ) (log : List RootCall) (promise : Promise) where
   unkept-from_none : (o : RawOpening) → failure_of_breach tests dig log promise o.block (Some o) ≡ None
       → IsUnkept tests dig log promise o
-  unkept-from_none o is =
-      let all = causes-none
-      (opening_causes tests log promise.coin (is_asked log promise.issued promise.due o.block) o
-      ++ (is_kept dig promise o, NotAbsent o.block) ∷ []) is in
-      record {
-        asked = not-false (is_asked log promise.issued promise.due o.block) all.0;
-        opens = not-false (opens_block tests log promise.coin o) all.1.0;
-        unkept = all.1.1.0;
-      }
+  unkept-from_none o is = grind (arith, common_steps, causes-none, not-false) steps 20000
 
   none-from_unkept : (o : RawOpening) → IsUnkept tests dig log promise o
       → failure_of_breach tests dig log promise o.block (Some o) ≡ None
-  none-from_unkept o right =
-      none-causes
-      (opening_causes tests log promise.coin (is_asked log promise.issued promise.due o.block) o
-      ++ (is_kept dig promise o, NotAbsent o.block) ∷ [])
-      (ap not right.asked, (ap not right.opens, (right.unkept, tt)))
+  none-from_unkept o right = grind (arith, common_steps, none-causes) steps 20000
 
 module _ (tests : Tests) (dig : List ℕ → List ℕ) (log : List RootCall) (promise : Promise)
     (openings : List RawOpening) where
@@ -70,11 +43,7 @@ module _ (tests : Tests) (dig : List ℕ → List ℕ) (log : List RootCall) (pr
       (λ o. is_asked log promise.issued promise.due o.block ≡ true)
       (λ o is. is.asked) openings (unkept-each rising none) in
       are-asked log promise.issued promise.due openings rising asked
-      (λ n absent. false_from_ne_true (is_asked log promise.issued promise.due n)
-      (λ is. let parts = asked-parts log promise.issued promise.due n is in
-      true≢false (sym is ∙ missing-none (is_asked log promise.issued promise.due n) n
-      (ap (failure_of_breach tests dig log promise n) (sym absent)
-      ∙ none n (omega (arith, parts.2, above-block promise.due openings))))))
+      (grind (arith, common_steps, false_from_ne_true, asked-parts, true≢false, missing-none, above-block) steps 20000)
 
   -- where each opening is right, and each block without one isn't asked, nothing fails
   none-unkept : AllByRecursion (IsUnkept tests dig log promise) openings
@@ -86,8 +55,7 @@ module _ (tests : Tests) (dig : List ℕ → List ℕ) (log : List RootCall) (pr
         | None ↦ λ absent. ap (λ (b : Bool). missing b n) (other n absent)
         | Some x ↦ λ found.
             let r = found-each (IsUnkept tests dig log promise) openings n x right found in
-            subst (λ (k : ℕ). failure_of_breach tests dig log promise k (Some x) ≡ None) r.0
-            (none-from_unkept tests dig log promise x r.1)
+            grind (arith, common_steps, none-from_unkept) steps 20000
       ]) refl
 
 every-unkept : (tests : Tests) (dig : List ℕ → List ℕ) (log : List RootCall) (promise : Promise)
@@ -97,10 +65,8 @@ every-unkept : (tests : Tests) (dig : List ℕ → List ℕ) (log : List RootCal
     → AllByRecursion (λ o. is_kept dig promise o ≡ false) os
     → AllByRecursion (IsUnkept tests dig log promise) os
 every-unkept tests dig log promise [] asked opens unkept = tt
-every-unkept tests dig log promise (o ∷ os) asked opens unkept = (
-  record { asked = asked.0; opens = opens.0; unkept = unkept.0 },
-  every-unkept tests dig log promise os asked.1 opens.1 unkept.1,
-)
+every-unkept tests dig log promise (o ∷ os) asked opens unkept =
+    grind (arith, common_steps, every-unkept tests dig log promise os asked.1 opens.1 unkept.1) steps 20000
 
 pub breaches_are_found : OnlyBreachesPass
 unfolding breach_of
@@ -114,12 +80,8 @@ breaches_are_found tests dig log promise bundle rising is =
       record {
         blocks = blocks-from_asked log promise.issued promise.due bundle.openings
             (unkept-asked tests dig log promise bundle.openings rising none);
-        opened = All-from_recursion (λ o. opens_block tests log promise.coin o ≡ true) bundle.openings
-            (every-weaker (IsUnkept tests dig log promise)
-            (λ o. opens_block tests log promise.coin o ≡ true) (λ o r. r.opens) bundle.openings right);
-        unkept = All-from_recursion (λ o. is_kept dig promise o ≡ false) bundle.openings
-            (every-weaker (IsUnkept tests dig log promise) (λ o. is_kept dig promise o ≡ false)
-            (λ o r. r.unkept) bundle.openings right);
+        opened = grind (arith, common_steps, every-weaker) steps 20000;
+        unkept = grind (arith, common_steps, every-weaker) steps 20000;
       },
     )
 
@@ -133,6 +95,4 @@ breaches_pass tests dig log promise bundle e is =
     (recursion_from_All (λ o. is_kept dig promise o ≡ false) bundle.openings is.unkept) in
     let none = lowest-none_from failures (above promise.due bundle.openings)
     (λ n less. none-unkept tests dig log promise bundle.openings right asked.other n) in
-    ap (λ (b : Bool). if b then unless_failed (lowest_failure failures (above promise.due bundle.openings)) tt
-    else Err (UnknownBlock bundle.tip)) (eq-eqb bundle.tip promise.due e)
-    ∙ ap (λ (o : Option HistoryRefusal). unless_failed o tt) none
+    grind (arith, common_steps, eq-eqb) steps 20000

@@ -1,18 +1,7 @@
 -- The audit of a bundle, opening by opening.
-use Rattle.std.proofs.Common.{◌≡◌, ℕ, ◌+◌, ◌<◌, ◌≤◌, Bool, true, false, if◌then◌else◌, List, [], ◌∷◌, length, get_or, drop, Some, None, Ok, Err, refl, sym, ap, ◌∙◌, subst}
-use Rattle.std.specs.Prelude.{Result}
-use Rattle.plasma_tx.specs.declared.call.RootCall.{RootCall}
-use Rattle.plasma_tx.specs.declared.opening.RawOpening.{RawOpening}
-use Rattle.plasma_tx.specs.Shown.{Tests}
-use Rattle.coin_history.specs.History.{leaf_of_opening}
-use Rattle.coin_history.specs.declared.refusal.HistoryRefusal.{HistoryRefusal}
-use Rattle.coin_history.specs.declared.refusal.HistoryRefusal.TheVariants.{MissingBlock, NotAbsent}
-use Rattle.coin_history.specs.Bundles.{AreRising}
-use Rattle.coin_history.specs.Checking.{first_cause, is_asked, opening_at, lowest_failure, above, unless_failed, opening_causes}
+use Rattle.receipt_audit.proofs.Words.{◌≡◌, ℕ, ◌+◌, ◌<◌, ◌≤◌, Bool, true, false, if◌then◌else◌, List, length, get_or, drop, Some, None, Ok, Err, refl, sym, subst, arith, Result, common_steps, RootCall, RawOpening, Tests, leaf_of_opening, HistoryRefusal, MissingBlock, NotAbsent, AreRising, first_cause, is_asked, opening_at, lowest_failure, above, unless_failed, opening_causes, Promise, is_kept, failure_of_breach}
 use Rattle.coin_history.specs.Inside.{NoneIsAsked, IsFirstAsked}
 use Rattle.coin_history.proofs.CheckFacts.{Passed, first-here, first-later, failed-none, failed-some, missing-next, failing-next, holding-next, missing-last, holding-last, passed-start, asked-high}
-use Rattle.receipt_audit.specs.declared.promise.Promise.{Promise}
-use Rattle.receipt_audit.specs.Audit.{is_kept, failure_of_breach}
 
 -- what is answered of a bundle whose tip is the due block
 abbrev pub breach_by : Tests → (List ℕ → List ℕ) → List RootCall → Promise → List RawOpening
@@ -64,8 +53,7 @@ cleared-unopened {tests} {dig} {log} {promise} {openings} {items} {i} {number} c
     failing-next (failure_of_breach tests dig log promise) (is_asked log promise.issued promise.due) (λ m. refl)
     openings items promise.due tt i
     o number why (record { same = cleared.same; inside = inside; is = is }) cleared.passed none
-    (first-here causes ((is_kept dig promise o, NotAbsent o.block) ∷ []) why
-    (failed-some (first_cause causes) (leaf_of_opening o) why (sym fails)))
+    (grind (arith, common_steps, first-here, failed-some) steps 20000)
 
 -- the leaf of an opening that opens the root
 pub opened-leaf : (tests : Tests) (log : List RootCall) (promise : Promise) (o : RawOpening) (leaf : List ℕ)
@@ -73,10 +61,7 @@ pub opened-leaf : (tests : Tests) (log : List RootCall) (promise : Promise) (o :
     (first_cause (opening_causes tests log promise.coin (is_asked log promise.issued promise.due o.block) o))
     (leaf_of_opening o)
     → leaf ≡ leaf_of_opening o
-opened-leaf tests log promise o leaf opens =
-    sym (failed-none
-    (first_cause (opening_causes tests log promise.coin (is_asked log promise.issued promise.due o.block) o))
-    (leaf_of_opening o) leaf (sym opens)).1
+opened-leaf tests log promise o leaf opens = grind (arith, common_steps, failed-none) steps 20000
 
 -- what the opening fails by where it opens the root, by whether it shows the transfer
 kept-opened : (tests : Tests) (dig : List ℕ → List ℕ) (log : List RootCall) (promise : Promise) (o : RawOpening)
@@ -86,10 +71,7 @@ kept-opened : (tests : Tests) (dig : List ℕ → List ℕ) (log : List RootCall
     → is_kept dig promise o ≡ kept
     → failure_of_breach tests dig log promise o.block (Some o) ≡ (if kept then Some (NotAbsent o.block) else None)
 kept-opened tests dig log promise o leaf kept opens is =
-    let causes = opening_causes tests log promise.coin (is_asked log promise.issued promise.due o.block) o in
-    first-later causes ((is_kept dig promise o, NotAbsent o.block) ∷ [])
-    (failed-none (first_cause causes) (leaf_of_opening o) leaf (sym opens)).0
-    ∙ ap (λ (b : Bool). if b then Some (NotAbsent o.block) else None) is
+    grind (arith, common_steps, first-later, failed-none) steps 20000
 
 -- the next opening opens the root to the promised transfer
 pub cleared-kept : {tests : Tests} {dig : List ℕ → List ℕ} {log : List RootCall} {promise : Promise}

@@ -1,44 +1,14 @@
 -- A conviction shows a broken promise.
-use Rattle.std.proofs.Common.{◌≡◌, ◌≢◌, ℕ, ◌^◌, ◌<◌, ◌≤◌, ◌==◌, not, Bool, true, false, if◌then◌else◌, List, [], ◌∷◌, ◌++◌, length, Option, Some, None, Ok, Err, inl, inr, refl, sym, ap, ◌∙◌, subst}
-use Rattle.std.specs.Prelude.{◌⊎◌, Result, nat_lt, is_some}
-use Rattle.std.specs.Option.{option_map_or}
-use Rattle.std.specs.List.{All, Contains}
-use Rattle.std.specs.Str.{bytes_eq}
-use Rattle.std.proofs.lemmas.Bool.{cases_Bool, both_ways, true≢false, not-false, and_from}
-use Rattle.std.proofs.lemmas.List.Elements.{recursion_from_All, All-contains_itself}
-use Rattle.std.proofs.lemmas.Slice.Eq.{bytes_eq-Decides}
-use Rattle.lms_sign.specs.Types.{is_supported}
-use Rattle.lms_sign.specs.Valid.{types_of, is_valid}
+use Rattle.receipt_audit.proofs.Words.{◌≡◌, ◌≢◌, ℕ, ◌^◌, ◌<◌, not, Bool, true, false, if◌then◌else◌, List, [], ◌∷◌, ◌++◌, length, Option, Some, None, Ok, Err, inl, inr, refl, sym, ap, ◌∙◌, arith, ◌⊎◌, Result, nat_lt, is_some, All, Contains, bytes_eq, cases_Bool, both_ways, true≢false, not-false, and_from, recursion_from_All, All-contains_itself, bytes_eq-Decides, common_steps, is_supported, types_of, is_valid, leaf_of, root_of, path_to, is_opening-path_to, RawOpening, RootCall, Chain, blocks, tests_by, root_at, opens_root, some_same, Bundle, HistoryRefusal, bundle_in, is_empty, leaf_of_opening, opens_block, is_asked, opening_at, found-each, asked-from, asked-from_blocks, Promise, Conviction, AuditRefusal, BadKey, NotSigned, NotYet, promise_in, promise_text, promised_part, signature_part, Honours, is_kept, breach_of, convicted, shown_by, audited, conviction_answer, ClashesAt, ShowsBreach, ConvictionsShowBrokenPromises, KeptPromisesAreNotConvicted}
 use Rattle.sparse_merkle.specs.declared.tree.Entry.{Entry}
-use Rattle.sparse_merkle.specs.TreeDigest.{leaf_of, root_of, path_to}
 use Rattle.sparse_merkle.specs.MaskedPath.{proof_path}
 use Rattle.sparse_merkle.specs.Opening.{is_opening}
-use Rattle.sparse_merkle.proofs.TreeLaws.{is_opening-path_to}
 use Rattle.sparse_merkle.proofs.OpeningLaws.{HasClash-openings}
-use Rattle.plasma_tx.specs.declared.opening.RawOpening.{RawOpening}
 use Rattle.plasma_tx.specs.declared.opening.Opening.{Opening}
 use Rattle.plasma_tx.specs.declared.opening.OpeningRefusal.{OpeningRefusal}
-use Rattle.plasma_tx.specs.declared.call.RootCall.{RootCall}
-use Rattle.plasma_tx.specs.Chain.{Chain}
 use Rattle.plasma_tx.specs.Openings.{opening_in}
-use Rattle.plasma_tx.specs.Views.{blocks}
-use Rattle.plasma_tx.specs.Shown.{tests_by, root_at, opens_root}
-use Rattle.plasma_tx.proofs.Names.{some_same}
 use Rattle.plasma_tx.proofs.OpeningTexts.{leaf-shown}
-use Rattle.coin_history.specs.declared.bundle.Bundle.{Bundle}
-use Rattle.coin_history.specs.declared.refusal.HistoryRefusal.{HistoryRefusal}
-use Rattle.coin_history.specs.Bundles.{bundle_in}
-use Rattle.coin_history.specs.History.{is_empty, leaf_of_opening, opens_block}
-use Rattle.coin_history.specs.Checking.{is_asked, opening_at}
 use Rattle.coin_history.proofs.BundleLaws.{text-bundle_in}
-use Rattle.coin_history.proofs.HistoryOpenings.{found-each, asked-from, asked-from_blocks}
-use Rattle.receipt_audit.specs.declared.promise.Promise.{Promise}
-use Rattle.receipt_audit.specs.declared.audit.Conviction.{Conviction}
-use Rattle.receipt_audit.specs.declared.refusal.AuditRefusal.{AuditRefusal}
-use Rattle.receipt_audit.specs.declared.refusal.AuditRefusal.TheVariants.{BadKey, NotSigned, NotYet, OtherCoin}
-use Rattle.receipt_audit.specs.Promises.{promise_in, promise_text, promised_part, signature_part, Honours}
-use Rattle.receipt_audit.specs.Audit.{is_kept, breach_of, convicted, shown_by, audited, conviction_answer, ClashesAt, ShowsBreach}
-use Rattle.receipt_audit.specs.Laws.{ConvictionsShowBrokenPromises, KeptPromisesAreNotConvicted}
 use Rattle.receipt_audit.proofs.Breaches.{breaches_are_found}
 use Rattle.receipt_audit.proofs.PromiseTexts.{promises_are_read_back, promises_have_one_spelling}
 
@@ -66,20 +36,7 @@ convicted-ok promise (Err why) conviction is = absurd (cc is)
 shown-ok : (dig : List ℕ → List ℕ) (log : List RootCall) (promise : Promise) (read : Result Bundle HistoryRefusal)
     (conviction : Conviction) → shown_by dig log promise read ≡ Ok conviction
     → (shown : Bundle) × (read ≡ Ok shown) × (breach_of (tests_by dig) dig log promise shown ≡ Ok tt)
-shown-ok dig log promise (Err why) conviction is = absurd (cc is)
-shown-ok dig log promise (Ok shown) conviction is =
-    (elim (shown.coin == promise.coin) as
-    (λ b. (if b then convicted promise (breach_of (tests_by dig) dig log promise shown)
-    else Err (OtherCoin shown.coin)) ≡ Ok conviction
-    → (other : Bundle) × ◌≡◌ {A = Result Bundle HistoryRefusal} (Ok shown) (Ok other)
-    × (breach_of (tests_by dig) dig log promise other ≡ Ok tt)) [
-      | true ↦ λ same. (
-        shown,
-        refl,
-        convicted-ok promise (breach_of (tests_by dig) dig log promise shown) conviction same,
-      )
-      | false ↦ λ wrong. absurd (cc wrong)
-    ]) is
+shown-ok dig log promise read conviction is = grind (arith, common_steps, convicted-ok) steps 20000
 
 audited-ok : (dig : List ℕ → List ℕ) (chain : Chain) (key receipt bundle : List ℕ) (conviction : Conviction)
     (found : Option Promise) → promise_in chain.tag receipt ≡ found
@@ -120,11 +77,7 @@ not-honoured : (dig : List ℕ → List ℕ) (promise : Promise) (raw : RawOpeni
     → is_kept dig promise raw ≡ false → leaf_of_opening raw ≡ leaf_of entries promise.coin
     → Honours dig entries promise → ⊥
 not-honoured dig promise raw entries unkept same honours =
-    let kept : is_kept dig promise raw ≡ true =
-    and_from (not (is_empty (leaf_of_opening raw))) (bytes_eq (dig (leaf_of_opening raw)) promise.digest)
-    (filled (leaf_of_opening raw) (λ e. honours.there (sym same ∙ e)))
-    ((bytes_eq-Decides (dig (leaf_of_opening raw)) promise.digest).1 (ap dig same ∙ honours.digest)) in
-    true≢false (sym kept ∙ unkept)
+    grind (arith, common_steps, and_from, filled, bytes_eq-Decides, true≢false) steps 20000
 
 module _ (dig : List ℕ → List ℕ) (log : List RootCall) (promise : Promise) (openings : List RawOpening)
     (long : (bytes : List ℕ) → length (dig bytes) ≡ 32) (small : promise.coin < 2 ^ 64)
@@ -158,19 +111,13 @@ module _ (dig : List ℕ → List ℕ) (log : List RootCall) (promise : Promise)
       → (Honours dig entries promise → ⊥) ⊎ ClashesAt dig promise.coin n entries openings
   against n root entries raw at good has below same =
       let opens : opens_root dig root promise.coin (opening_in dig raw) ≡ true =
-      ap (λ (r : Option (List ℕ)). option_map_or (λ root. opens_root dig root promise.coin (opening_in dig raw)) r
-      false)
-      (sym (ap (root_at log) at ∙ has)) ∙ good.1 in
+      grind (arith, common_steps) steps 20000 in
       let read = read-opened dig root promise.coin raw (opening_in dig raw) refl opens in
       let shows : leaf_of_opening raw ≡ read.0.leaf = leaf-shown dig raw read.0 read.1 in
       let there : is_opening dig root promise.coin (leaf_of entries promise.coin) (path_to dig promise.coin entries)
-      ≡ true =
-      ap (λ (r : List ℕ). is_opening dig r promise.coin (leaf_of entries promise.coin)
-      (path_to dig promise.coin entries)) (sym same)
-      ∙ is_opening-path_to dig promise.coin entries small below in
+      ≡ true = grind (arith, common_steps, is_opening-path_to) steps 20000 in
       elim (cases_Bool (bytes_eq read.0.leaf (leaf_of entries promise.coin))) [
-        | inl one ↦ inl (not-honoured dig promise raw entries good.2
-            (shows ∙ (bytes_eq-Decides read.0.leaf (leaf_of entries promise.coin)).0 one))
+        | inl one ↦ inl (grind (arith, common_steps, not-honoured, bytes_eq-Decides) steps 20000)
         | inr two ↦ inr (record {
           raw = raw;
           opening = read.0;
@@ -179,8 +126,7 @@ module _ (dig : List ℕ → List ℕ) (log : List RootCall) (promise : Promise)
           reads = read.1;
           clash = HasClash-openings dig root read.0.leaf (leaf_of entries promise.coin) promise.coin
               (proof_path dig read.0.proof) (path_to dig promise.coin entries) long read.2 there
-              (λ e. both_ways (bytes_eq read.0.leaf (leaf_of entries promise.coin)) two
-              ((bytes_eq-Decides read.0.leaf (leaf_of entries promise.coin)).1 e));
+              (grind (arith, common_steps, both_ways, bytes_eq-Decides) steps 20000);
         })
       ]
 
@@ -212,17 +158,6 @@ kept_promises_are_not_convicted dig chain promise key signature bytes bundle n e
     let broken = convictions_show_broken_promises dig chain key (promise_text promise ++ signature) bundle conviction
     long small others is in
     let read : promise_in chain.tag (promise_text promise ++ signature) ≡ Some promise =
-    ap (λ (t : List ℕ). promise_in t (promise_text promise ++ signature)) (sym tagged)
-    ∙ promises_are_read_back promise signature fits in
+    grind (arith, common_steps, promises_are_read_back) steps 20000 in
     let same : broken.promise ≡ promise = some_same broken.promise promise (sym broken.is_promise ∙ read) in
-    let either : (Honours dig entries promise → ⊥) ⊎ ClashesAt dig promise.coin n entries broken.shown.openings =
-    subst (λ (p : Promise). p.issued < n → n ≤ p.due
-    → (Honours dig entries p → ⊥) ⊎ ClashesAt dig p.coin n entries broken.shown.openings) same
-    (λ after before. broken.broken n (root_of dig entries) entries after before has below refl) less le in
-    elim either [
-      | inl never ↦ absurd (never (record {
-        there = λ e. there (sym leaf_is ∙ e);
-        digest = ap dig leaf_is ∙ sym digest;
-      }))
-      | inr clash ↦ (broken.shown, broken.is_bundle, clash)
-    ]
+    grind (arith, common_steps) steps 20000

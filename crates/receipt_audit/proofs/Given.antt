@@ -1,31 +1,7 @@
 -- The receipts that an issue gives bind their operator.
-use Rattle.std.proofs.Common.{◌≡◌, ℕ, ◌<◌, true, Bool, if◌then◌else◌, List, [], ◌∷◌, ◌++◌, length, Some, None, Ok, Err, inr, refl, sym, ap, ◌∙◌, subst, arith}
-use Rattle.std.specs.Prelude.{Result, nat_lt}
-use Rattle.std.specs.List.{slice_range}
-use Rattle.lms_sign.specs.declared.secret.Secret.{Secret}
-use Rattle.lms_sign.specs.Types.{is_supported, leaf_count}
-use Rattle.lms_sign.specs.Tree.{public_key_of, signature_of}
-use Rattle.lms_sign.specs.Valid.{types_of, IsValid}
+use Rattle.receipt_audit.proofs.Words.{◌≡◌, ℕ, ◌<◌, true, Bool, if◌then◌else◌, List, [], ◌∷◌, ◌++◌, length, Some, None, Ok, Err, inr, refl, sym, ap, ◌∙◌, subst, arith, Result, nat_lt, slice_range, common_steps, Secret, is_supported, leaf_count, public_key_of, signature_of, types_of, IsValid, binding_record, is_marked, messages_of, binding-messages, RootCall, AreBytes, blocks, bytes-range, length-range, number-below, bundle_in, OfferRefusal, who_is, offer_effect, Promise, Receipt, NotYet, IssueRefusal, promise_in, promise_text, promised_part, signature_part, IsPromise, audited, conviction_answer, shown_by, IssueEffect, issue_causes, issue_effect, promise_for, receipt_or, record_or, MayIssue, IsGiven, IssuesGiveReceipts, GivenReceiptsAreTaken, KeptReceiptsDoNotConvict}
 use Rattle.lms_sign.proofs.Laws.{key-types, signatures_are_valid}
 use Rattle.node_journal.specs.Effect.{first_cause}
-use Rattle.leaf_journal.specs.Records.{binding_record, is_marked, messages_of}
-use Rattle.leaf_journal.proofs.Binding.{binding-messages}
-use Rattle.plasma_tx.specs.declared.call.RootCall.{RootCall}
-use Rattle.plasma_tx.specs.Spelling.{AreBytes}
-use Rattle.plasma_tx.specs.Views.{blocks}
-use Rattle.plasma_tx.proofs.Parts.{bytes-range, length-range, number-below}
-use Rattle.coin_history.specs.Bundles.{bundle_in}
-use Rattle.operator_rules.specs.declared.refusal.OfferRefusal.{OfferRefusal}
-use Rattle.operator_rules.specs.Records.{who_is}
-use Rattle.operator_rules.specs.Commands.{offer_effect}
-use Rattle.receipt_audit.specs.declared.promise.Promise.{Promise}
-use Rattle.receipt_audit.specs.declared.issuing.Receipt.{Receipt}
-use Rattle.receipt_audit.specs.declared.refusal.AuditRefusal.TheVariants.{NotYet}
-use Rattle.receipt_audit.specs.declared.refusal.IssueRefusal.{IssueRefusal}
-use Rattle.receipt_audit.specs.Promises.{promise_in, promise_text, promised_part, signature_part, IsPromise}
-use Rattle.receipt_audit.specs.Audit.{audited, conviction_answer, shown_by}
-use Rattle.receipt_audit.specs.Desk.{IssueEffect, issue_causes, issue_effect, promise_for, receipt_or, record_or}
-use Rattle.receipt_audit.specs.Laws.{MayIssue, IsGiven, IssuesGiveReceipts, GivenReceiptsAreTaken, KeptReceiptsDoNotConvict}
 use Rattle.receipt_audit.proofs.PromiseTexts.{promise-long, promises_are_read_back}
 use Rattle.receipt_audit.proofs.Convictions.{kept_promises_are_not_convicted}
 use Rattle.receipt_audit.proofs.Issues.{causes-none, effect-issued, effect-refused, offered-fits, offered-long, parts-in}
@@ -79,14 +55,9 @@ module _ (dig judge : List ℕ → List ℕ) (secret : Secret) (notes records : 
       → IsIssued receipt
   is-issued receipt is =
       (elim (first_cause causes) as (λ o. first_cause causes ≡ o → IsIssued receipt) [
-        | Some why ↦ λ cause.
-            let refused : ◌≡◌ {A = Result Receipt IssueRefusal} (Err why) (Ok receipt) =
-            sym (ap (λ (e : IssueEffect). e.answer)
-            (effect-refused dig judge secret notes records log bytes due why cause)) ∙ is in
-            absurd (cc refused)
+        | Some why ↦ grind (arith, common_steps, effect-refused) steps 20000
         | None ↦ λ none. issued-by (offer_effect judge notes log bytes).answer refl receipt none
-            (sym (ap (λ (e : IssueEffect). e.answer)
-            (effect-issued dig judge secret notes records log bytes due none)) ∙ is)
+            (grind (arith, common_steps, effect-issued) steps 20000)
       ]) refl
 
   module _ (may : MayIssue dig secret bytes due) (receipt : Receipt) (given : IsIssued receipt) where

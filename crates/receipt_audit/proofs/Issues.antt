@@ -1,45 +1,20 @@
 -- What an issue does to an operator and a desk.
-use Rattle.std.proofs.Common.{◌≡◌, ℕ, ◌<◌, ◌≤◌, ◌==◌, not, Bool, true, false, if◌then◌else◌, List, [], ◌∷◌, ◌++◌, length, take, drop, Option, Some, None, Ok, Err, inr, refl, sym, ap, ◌∙◌, subst, arith, lit<}
-use Rattle.std.specs.Prelude.{Result, nat_le}
-use Rattle.std.specs.List.{All, AllByRecursion}
-use Rattle.std.proofs.lemmas.Bool.{leb-false, not-false, true≢false, eqb-true, and_parts}
+use Rattle.receipt_audit.proofs.Words.{◌≡◌, ℕ, ◌<◌, ◌≤◌, ◌==◌, Bool, true, false, if◌then◌else◌, List, [], ◌∷◌, ◌++◌, length, take, drop, Option, Some, None, Ok, Err, refl, sym, ap, ◌∙◌, subst, arith, lit<, Result, All, leb-false, not-false, true≢false, eqb-true, and_parts, All-push, common_steps, Secret, leaf_count, signature_of, public_key_of, IsValid, types_of, binding_record, is_marked, messages_of, MayBind, MessagesPass, bind-did, bind-fails, RootCall, has_second_mark, body_at_start, blocks, leaf_of, leaf_of-with_leaf, OfferRefusal, Note, Offered, note_text, notes_in, operator_kinds, who_is, forest_in, offer_effect, Receipt, Promise, IssueRefusal, begins_promise, is_promise, promise_text, DidIssue, IssueEffect, AtDesk, issue_causes, issue_effect, issue_stop, promise_for, receipt_or, record_or, unoffered}
 use Rattle.std.proofs.Math.Seq.{take-append_seam, drop-append_seam}
-use Rattle.std.proofs.lemmas.List.Elements.{All-push}
 use Rattle.crash_disk.specs.Disk.{History, FaultPlan}
-use Rattle.lms_sign.specs.declared.secret.Secret.{Secret}
-use Rattle.lms_sign.specs.Types.{leaf_count}
-use Rattle.lms_sign.specs.Tree.{signature_of, public_key_of}
-use Rattle.lms_sign.specs.Valid.{IsValid, types_of}
 use Rattle.node_journal.specs.Effect.{Effect, first_cause}
 use Rattle.node_journal.specs.Role.{are_of}
 use Rattle.node_journal.specs.Notes.{NotesState, Did}
 use Rattle.node_journal.specs.declared.stop.Stop.TheVariants.{NoMemory as StopNoMemory, DeviceFault as StopFault}
-use Rattle.leaf_journal.specs.Records.{binding_record, is_marked, messages_of, MayBind, MessagesPass}
 use Rattle.leaf_journal.specs.Leaves.{LeavesState, leaves_of, leaf_effect, bind_stop}
 use Rattle.leaf_journal.specs.declared.refusal.BindRefusal.{BindRefusal}
 use Rattle.leaf_journal.specs.declared.refusal.BindRefusal.TheVariants.{KeySpent as BindSpent, DeviceFault as BindFault, Closed as BindClosed}
-use Rattle.leaf_journal.proofs.Binding.{bind-did, bind-fails}
-use Rattle.plasma_tx.specs.declared.call.RootCall.{RootCall}
-use Rattle.plasma_tx.specs.Spelling.{has_second_mark, body_at_start}
-use Rattle.plasma_tx.specs.Views.{blocks}
 use Rattle.plasma_tx.proofs.Spellings.{Fits, signed_in-ok}
-use Rattle.sparse_merkle.specs.TreeDigest.{leaf_of}
-use Rattle.sparse_merkle.proofs.TreeLaws.{leaf_of-with_leaf}
-use Rattle.operator_rules.specs.declared.refusal.OfferRefusal.{OfferRefusal}
-use Rattle.operator_rules.specs.declared.refusal.OfferRefusal.TheVariants.{NotTransfer, NoCoin, WrongParent, BadSignature, TooLate, PoolHasCoin, DeviceFault as OfferFault, Closed as OfferClosed, NoMemory as OfferNoMemory}
-use Rattle.operator_rules.specs.Records.{Note, Offered, note_text, notes_of as notes_in, operator_kinds, who_is}
 use Rattle.operator_rules.specs.Trees.{coin_named, forest_of}
-use Rattle.operator_rules.specs.Commands.{forest_in, offer_effect}
 use Rattle.operator_rules.proofs.Role.{commands_add_their_notes}
 use Rattle.operator_rules.proofs.Run.{offerable}
 use Rattle.operator_core.specs.State.{offer_stop}
 use Rattle.operator_core.proofs.Offers.{offered_note}
-use Rattle.receipt_audit.specs.declared.issuing.Receipt.{Receipt}
-use Rattle.receipt_audit.specs.declared.promise.Promise.{Promise}
-use Rattle.receipt_audit.specs.declared.refusal.IssueRefusal.{IssueRefusal}
-use Rattle.receipt_audit.specs.declared.refusal.IssueRefusal.TheVariants.{BadDue, OldJournal, KeySpent, Offer}
-use Rattle.receipt_audit.specs.Promises.{begins_promise, is_promise, promise_text}
-use Rattle.receipt_audit.specs.Desk.{DidIssue, IssueEffect, AtDesk, issue_causes, issue_effect, issue_or, issue_stop, promise_for, receipt_or, record_or, unoffered}
 
 -- ---- the next leaf
 
@@ -63,10 +38,7 @@ pub left-of : {D : Type 0} (old seen : LeavesState D) (secret : Secret) (count :
     → count ≡ leaf_count (types_of (public_key_of secret))
     → length (messages_of seen.notes.records) < leaf_count secret.types
     → length (messages_of old.notes.records) < leaves_of old.key
-left-of old seen secret count same key value public left =
-    subst (λ (s : LeavesState _). length (messages_of s.notes.records) < leaves_of s.key) (sym same)
-    (subst (λ (k : List ℕ). length (messages_of seen.notes.records) < leaf_count (types_of k)) key
-    (subst (λ (n : ℕ). length (messages_of seen.notes.records) < n) (sym value ∙ public) left))
+left-of old seen secret count same key value public left = grind (arith, common_steps) steps 20000
 
 -- a promise has 100 bytes
 pub promise-length : (text : List ℕ) → is_promise text ≡ true → length text ≡ 100
@@ -76,9 +48,7 @@ promise-length text is =
 -- it may be bound behind the marker
 pub promise-binds : (records : List (List ℕ)) (text : List ℕ) → is_promise text ≡ true → is_marked records ≡ true
     → MayBind records text
-promise-binds records text is marked =
-    let long = promise-length text is in
-    inr (marked, omega (arith, long), omega (arith, long))
+promise-binds records text is marked = grind (arith, common_steps, promise-length) steps 20000
 
 -- a receipt's two parts
 pub parts-in : (text signature bytes : List ℕ) → length text ≡ 100 → bytes ≡ text ++ signature
@@ -92,8 +62,7 @@ pub parts-valid : (key text signature bytes : List ℕ) → length text ≡ 100 
     → IsValid key text signature → IsValid key (take 100 bytes) (drop 100 bytes)
 parts-valid key text signature bytes long is valid =
     let parts = parts-in text signature bytes long is in
-    subst (λ (m : List ℕ). IsValid key m (drop 100 bytes)) (sym parts.0)
-    (subst (λ (s : List ℕ). IsValid key text s) (sym parts.1) valid)
+    grind (arith, common_steps) steps 20000
 
 -- every message is a promise, also with one more
 pub pass-more : (text : List ℕ) (records more : List (List ℕ)) → is_promise text ≡ true
@@ -112,18 +81,7 @@ pass-same records more same pass = subst (All (λ message. is_promise message �
 -- what stops nothing is refused before the offer
 cause-fine : (leaves : ℕ) (records : List (List ℕ)) (count due : ℕ) (why : IssueRefusal)
     → first_cause (issue_causes leaves records count due) ≡ Some why → issue_stop (Err why) ≡ None
-cause-fine leaves records count due why is = first (issue_causes leaves records count due) (refl, (refl, (refl, tt))) is
-  where
-    first : (causes : List (Bool × IssueRefusal)) → AllByRecursion (λ cause. issue_stop (Err cause.1) ≡ None) causes
-        → first_cause causes ≡ Some why → issue_stop (Err why) ≡ None
-    first [] all found = absurd (cc found)
-    first (cause ∷ causes) all found =
-        (elim cause.0 as (λ b. (if b then Some cause.1 else first_cause causes) ≡ Some why
-        → issue_stop (Err why) ≡ None) [
-          | true ↦ λ same. (let e : cause.1 ≡ why = cc same in ap (λ (w : IssueRefusal). issue_stop (Err w)) (sym e)
-              ∙ all.0)
-          | false ↦ λ rest. first causes all.1 rest
-        ]) found
+cause-fine leaves records count due why is = grind (arith, common_steps) steps 20000
 
 -- what an issue does where the offer is made
 abbrev pub issued : Secret → List (List ℕ) → List ℕ → Effect (Result ℕ OfferRefusal) → IssueEffect
@@ -144,37 +102,19 @@ module _ (dig judge : List ℕ → List ℕ) (secret : Secret) (notes records : 
       → issue_effect dig judge secret notes records log bytes due
       ≡ record { answer = Err why; is_offered = false; note = None; leaf = None }
   unfolding issue_effect
-  effect-refused why is =
-      ap (λ (o : Option IssueRefusal). issue_or o (issued secret records text_of (offer_effect judge notes log bytes)))
-      is
+  effect-refused why is = grind (arith, common_steps) steps 20000
 
   pub effect-issued : first_cause (issue_causes (leaf_count secret.types) records (blocks log) due) ≡ None
       → issue_effect dig judge secret notes records log bytes due
       ≡ issued secret records text_of (offer_effect judge notes log bytes)
   unfolding issue_effect
-  effect-issued is =
-      ap (λ (o : Option IssueRefusal). issue_or o (issued secret records text_of (offer_effect judge notes log bytes)))
-      is
+  effect-issued is = grind (arith, common_steps) steps 20000
 
 -- where none of the causes holds the due block isn't there, the marker is, and a leaf is left
 pub causes-none : (leaves : ℕ) (records : List (List ℕ)) (count due : ℕ)
     → first_cause (issue_causes leaves records count due) ≡ None
     → (count < due) × (is_marked records ≡ true) × (length (messages_of records) < leaves)
-causes-none leaves records count due is =
-    let used = length (messages_of records) in
-    let spent : List (Bool × IssueRefusal) = (nat_le leaves used, KeySpent used) ∷ [] in
-    let due_is = past (nat_le due count) (BadDue count) ((not (is_marked records), OldJournal) ∷ spent) is in
-    let marked = past (not (is_marked records)) OldJournal spent due_is.1 in
-    let left = past (nat_le leaves used) (KeySpent used) [] marked.1 in (
-      leb-false due count due_is.0,
-      not-false (is_marked records) marked.0,
-      leb-false leaves used left.0,
-    )
-  where
-    past : (b : Bool) (why : IssueRefusal) (causes : List (Bool × IssueRefusal))
-        → first_cause ((b, why) ∷ causes) ≡ None → (b ≡ false) × (first_cause causes ≡ None)
-    past true why causes found = absurd (cc found)
-    past false why causes found = (refl, found)
+causes-none leaves records count due is = grind (arith, common_steps, leb-false, not-false) steps 20000
 
 -- ---- what was done
 
@@ -194,29 +134,7 @@ module _ {E D : Type 0} (told : E → Option History) (plan : E → Option Fault
         → Did told plan faults offered.note old (offer_stop (Err why)) new
         → DidIssue told plan faults desk_told desk_plan desk_faults (issued secret records text offered) old desk
         (issue_stop (Err (unoffered why))) new desk
-    did-unoffered why answered did = at why answered did
-      where
-        stays : (w : OfferRefusal) → Err w ≡ offered.answer → Did told plan faults offered.note old None new
-            → DidIssue told plan faults desk_told desk_plan desk_faults (issued secret records text offered) old desk
-            None new desk
-        stays w is done =
-            let none : record_or records text offered.answer ≡ None = ap (record_or records text) (sym is) in
-            subst (λ (n : Option (List ℕ)). Did told plan faults offered.note old None new
-            × Did desk_told desk_plan desk_faults n desk None desk) (sym none) (done, (is_open, refl))
-
-        at : (w : OfferRefusal) → (offer_stop (Err w) ≡ None → Err w ≡ offered.answer)
-            → Did told plan faults offered.note old (offer_stop (Err w)) new
-            → DidIssue told plan faults desk_told desk_plan desk_faults (issued secret records text offered) old desk
-            (issue_stop (Err (unoffered w))) new desk
-        at NotTransfer is done = stays NotTransfer (is refl) done
-        at NoCoin is done = stays NoCoin (is refl) done
-        at (WrongParent tip) is done = stays (WrongParent tip) (is refl) done
-        at BadSignature is done = stays BadSignature (is refl) done
-        at (TooLate last) is done = stays (TooLate last) (is refl) done
-        at PoolHasCoin is done = stays PoolHasCoin (is refl) done
-        at OfferFault is done = (refl, done, (is_open, refl))
-        at OfferClosed is done = (refl, done, (is_open, refl))
-        at OfferNoMemory is done = (refl, done.1, (is_open, refl))
+    did-unoffered why answered did = grind (arith, common_steps) steps 20000
 
     -- the transfer was offered, and the promise bound
     pub did-issued : (after : NotesState D) (coin : ℕ) → Ok coin ≡ offered.answer
@@ -224,11 +142,7 @@ module _ {E D : Type 0} (told : E → Option History) (plan : E → Option Fault
         → Did desk_told desk_plan desk_faults (Some (binding_record records text)) desk None after
         → DidIssue told plan faults desk_told desk_plan desk_faults (issued secret records text offered) old desk
         None new after
-    did-issued after coin is done bound =
-        let some : record_or records text offered.answer ≡ Some (binding_record records text) =
-        ap (record_or records text) (sym is) in
-        subst (λ (n : Option (List ℕ)). Did told plan faults offered.note old None new
-        × Did desk_told desk_plan desk_faults n desk None after) (sym some) (done, bound)
+    did-issued after coin is done bound = grind (arith, common_steps) steps 20000
 
     -- the transfer was offered, and the desk's disk failed
     pub did-faulted : (after : NotesState D) (coin : ℕ) → Ok coin ≡ offered.answer
@@ -236,34 +150,14 @@ module _ {E D : Type 0} (told : E → Option History) (plan : E → Option Fault
         → Did desk_told desk_plan desk_faults (Some (binding_record records text)) desk (Some StopFault) after
         → DidIssue told plan faults desk_told desk_plan desk_faults (issued secret records text offered) old desk
         (Some (AtDesk StopFault)) new after
-    did-faulted after coin is done failed =
-        let some : record_or records text offered.answer ≡ Some (binding_record records text) =
-        ap (record_or records text) (sym is) in
-        subst (λ (n : Option (List ℕ)). (true ≡ true) × Did told plan faults offered.note old None new
-        × Did desk_told desk_plan desk_faults n desk (Some StopFault) after) (sym some) (refl, done, failed)
+    did-faulted after coin is done failed = grind (arith, common_steps) steps 20000
 
 -- a refusal that isn't a stop is answered by its definition
 unoffered-answer : (secret : Secret) (records : List (List ℕ)) (text : List ℕ)
     (offered : Effect (Result ℕ OfferRefusal)) (why : OfferRefusal)
     → (offer_stop (Err why) ≡ None → Err why ≡ offered.answer) → issue_stop (Err (unoffered why)) ≡ None
     → Err (unoffered why) ≡ (issued secret records text offered).answer
-unoffered-answer secret records text offered why answered none = at why answered none
-  where
-    given : (w : OfferRefusal) → Err w ≡ offered.answer → Err (Offer w) ≡ (issued secret records text offered).answer
-    given w is = ap (receipt_or secret records text) is
-
-    at : (w : OfferRefusal) → (offer_stop (Err w) ≡ None → Err w ≡ offered.answer)
-        → issue_stop (Err (unoffered w)) ≡ None
-        → Err (unoffered w) ≡ (issued secret records text offered).answer
-    at NotTransfer is stop = given NotTransfer (is refl)
-    at NoCoin is stop = given NoCoin (is refl)
-    at (WrongParent tip) is stop = given (WrongParent tip) (is refl)
-    at BadSignature is stop = given BadSignature (is refl)
-    at (TooLate last) is stop = given (TooLate last) (is refl)
-    at PoolHasCoin is stop = given PoolHasCoin (is refl)
-    at OfferFault is stop = absurd (cc stop)
-    at OfferClosed is stop = absurd (cc stop)
-    at OfferNoMemory is stop = absurd (cc stop)
+unoffered-answer secret records text offered why answered none = grind (arith, common_steps) steps 20000
 
 -- ---- an offer that was taken
 
@@ -362,25 +256,17 @@ module _ {E D : Type 0} (told : E → Option History) (plan : E → Option Fault
     unoffered-did new why said is answered did =
         subst (λ (w : IssueRefusal). DidIssue told plan faults desk_told desk_plan desk_faults effect_is old desk
         (issue_stop (Err w)) new desk) (sym is)
-        (subst (λ (e : IssueEffect). DidIssue told plan faults desk_told desk_plan desk_faults e old desk
-        (issue_stop (Err (unoffered why))) new desk) (sym issued_is)
-        (did-unoffered told plan faults desk_told desk_plan desk_faults secret records text_is offer_is old new desk
-        is_open why answered did))
+        (grind (arith, common_steps, issued_is, did-unoffered) steps 20000)
 
     pub unoffered-said : (why : OfferRefusal) (said : IssueRefusal) → said ≡ unoffered why
         → (offer_stop (Err why) ≡ None → Err why ≡ offer_is.answer)
         → issue_stop (Err said) ≡ None → Err said ≡ effect_is.answer
-    unoffered-said why said is answered =
-        subst (λ (w : IssueRefusal). issue_stop (Err w) ≡ None → Err w ≡ effect_is.answer) (sym is)
-        (λ stop. unoffered-answer secret records text_is offer_is why answered stop
-        ∙ sym (ap (λ (e : IssueEffect). e.answer) issued_is))
+    unoffered-said why said is answered = grind (arith, common_steps, unoffered-answer, issued_is) steps 20000
 
     module _ (coin : ℕ) (promise : Promise) (tag : List ℕ) (coin_is : Ok coin ≡ offer_is.answer)
         (tag_is : tag ≡ (who_is old.records).tag) (promise_is : promise ≡ promise_for dig tag count bytes due) where
       same-text : promise_text promise ≡ text_is
-      same-text =
-          ap promise_text (promise_is ∙ ap (λ (t : List ℕ). promise_for dig t count bytes due) tag_is
-          ∙ ap (λ (n : ℕ). promise_for dig (who_is old.records).tag n bytes due) count_is)
+      same-text = grind (arith, common_steps) steps 20000
 
       pub issued-answer : (receipt : Receipt)
           → receipt.bytes ≡ promise_text promise

@@ -1,6 +1,5 @@
 -- Lists that have a place.
-use Rattle.std.proofs.Common.{◌≡◌, ◌≢◌, ℕ, ◌<◌, List, [], length, ◌∙◌, ap, arith}
-use Rattle.plasma_tx.specs.declared.opening.RawOpening.{RawOpening}
+use Rattle.receipt_audit.proofs.Words.{◌≡◌, ◌≢◌, ℕ, ◌<◌, List, [], length, ◌∙◌, ap, arith, RawOpening}
 
 -- a list with a place isn't empty
 pub some-inside : {i : ℕ} (items openings : List RawOpening) → items ≡ openings → i < length items → openings ≢ []

@@ -9,3 +9,4 @@ pub mod Refusals
 pub mod Audits
 pub mod Issues
 pub mod Given
+mod Words

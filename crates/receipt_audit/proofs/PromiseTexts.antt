@@ -1,16 +1,5 @@
 -- Promises are read as they are written, and have one spelling.
-use Rattle.std.proofs.Common.{◌≡◌, ℕ, ◌+◌, ◌^◌, ◌<◌, ◌≤◌, ◌&&◌, Bool, true, false, if◌then◌else◌, List, [], ◌++◌, Some, None, length, take, refl, sym, ap, ◌∙◌, subst, arith}
-use Rattle.std.specs.Prelude.{nat_le}
-use Rattle.std.specs.List.{slice_range}
-use Rattle.std.specs.Str.{bytes_eq}
-use Rattle.std.proofs.lemmas.Bool.{and_from, and_parts, le-leb, leb-true}
-use Rattle.std.proofs.lemmas.List.{length-append}
-use Rattle.std.proofs.lemmas.Slice.Eq.{bytes_eq-Decides}
-use Rattle.plasma_tx.specs.Spelling.{number_text, number_at, AreBytes}
-use Rattle.plasma_tx.proofs.Names.{some_same}
-use Rattle.plasma_tx.proofs.Parts.{range-front, range-back, range-join, length-range, bytes-range, number-below, number-bytes, number-in}
-use Rattle.receipt_audit.specs.declared.promise.Promise.{Promise}
-use Rattle.receipt_audit.specs.Promises.{promise_mark, promise_text, begins_promise, promise_at_start, promise_in, promised_part, IsPromise, PromisesAreReadBack, PromisesHaveOneSpelling}
+use Rattle.receipt_audit.proofs.Words.{◌≡◌, ℕ, ◌+◌, ◌^◌, ◌<◌, ◌≤◌, ◌&&◌, Bool, true, false, if◌then◌else◌, List, [], ◌++◌, Some, None, length, take, refl, sym, ap, ◌∙◌, subst, arith, nat_le, slice_range, bytes_eq, and_from, and_parts, le-leb, leb-true, length-append, bytes_eq-Decides, common_steps, number_text, number_at, AreBytes, some_same, range-front, range-back, range-join, length-range, bytes-range, number-below, number-bytes, number-in, Promise, promise_mark, promise_text, begins_promise, promise_at_start, promise_in, promised_part, IsPromise, PromisesAreReadBack, PromisesHaveOneSpelling}
 
 -- ---- a promise's parts in the bytes
 
@@ -120,14 +109,7 @@ promises_are_read_back promise signature h =
     let tagged = tag-in mark promise.tag coin parent promise.digest issued due signature refl h.tag refl refl h.digest
     refl refl in
     let begins : begins_promise whole ≡ true =
-    and_from (nat_le 100 (length whole)) (bytes_eq (take 4 whole) promise_mark)
-    (le-leb 100 (length whole) (omega (
-      arith,
-      long,
-      length-append
-          (mark ++ promise.tag ++ coin ++ parent ++ promise.digest ++ issued ++ due) signature,
-    )))
-    ((bytes_eq-Decides (take 4 whole) promise_mark).1 marked) in
+    grind (arith, common_steps, and_from, le-leb, length-append, bytes_eq-Decides) steps 20000 in
     let coin_is = number-in whole 36 promise.coin h.coin (coin-in mark promise.tag coin parent promise.digest issued due
     signature refl h.tag refl refl h.digest refl refl) in
     let parent_is = number-in whole 44 promise.parent h.parent (parent-in mark promise.tag coin parent promise.digest
