@@ -5,3 +5,4 @@ pub mod WatcherOrders
 pub mod WatcherOrderLaws
 pub mod OperatorOrders
 pub mod OperatorOrderLaws
+mod Words

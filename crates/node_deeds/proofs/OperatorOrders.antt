@@ -1,20 +1,10 @@
 -- A refusal adds no record; what is given out for one, and what a run did that was refused.
-use Rattle.std.proofs.Common.{◌≡◌, ℕ, List, Bool, true, false, length, Option, Some, None, Ok, Err, refl, subst, sym}
-use Rattle.std.specs.Prelude.{Result, IfOk, IfErr, IfSome, if◌then◌else◌, nat_lt}
-use Rattle.crash_disk.specs.Disk.{History, FaultPlan}
-use Rattle.node_journal.specs.Effect.{only}
-use Rattle.node_journal.specs.Notes.{NotesState, Did, stopped_by}
-use Rattle.node_journal.specs.declared.stop.Stop.{Stop}
+use Rattle.node_deeds.proofs.Words.{◌≡◌, ℕ, List, Bool, true, false, length, Option, Some, None, Ok, Err, refl, subst, sym, Result, IfOk, IfErr, IfSome, if◌then◌else◌, nat_lt, History, FaultPlan, only, NotesState, Did, stopped_by, Stop, lay_effect, prove_cause, Response, answered, refused, Given, IsGiven}
 use Rattle.operator_rules.specs.declared.TheConstants.{MOST_LAID}
 use Rattle.operator_rules.specs.declared.refusal.LayRefusal.{LayRefusal}
 use Rattle.operator_rules.specs.declared.refusal.ProveRefusal.{ProveRefusal}
 use Rattle.operator_rules.specs.declared.refusal.ProveRefusal.TheVariants.{NoMemory}
 use Rattle.operator_rules.specs.Records.{Laid, note_text}
-use Rattle.operator_rules.specs.Commands.{lay_effect}
-use Rattle.node_replies.specs.Causes.{prove_cause}
-use Rattle.node_replies.specs.Orders.{Response, answered, refused}
-use Rattle.node_replies.specs.declared.given.Given.{Given}
-use Rattle.node_replies.specs.Given.{IsGiven}
 
 -- bytes that are too long add no record
 pub lay-refused : (coin : ℕ) (leaf : List ℕ) (why : LayRefusal) → (lay_effect coin leaf).answer ≡ Err why

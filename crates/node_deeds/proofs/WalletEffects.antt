@@ -1,15 +1,9 @@
 -- What a wallet's commands add: a note or a leaf's record at most, and nothing where they are refused.
-use Rattle.std.proofs.Common.{◌≡◌, ℕ, Bool, true, false, if◌then◌else◌, List, Option, None, Ok, Err, inl, refl, sym, ap, ◌∙◌}
-use Rattle.std.specs.Prelude.{Result}
+use Rattle.node_deeds.proofs.Words.{◌≡◌, ℕ, Bool, true, false, if◌then◌else◌, List, Option, None, Ok, Err, inl, refl, sym, ap, ◌∙◌, Result, RootCall, WalletRefusal, AlreadyNew, WalletRecords, WalletEffect, answers, binds_it, coin_state, accept_effect, send_effect, leave_from, leave_effect, reclaim_effect, migrate_effect, leaves_are_answered}
 use Rattle.leaf_journal.specs.Records.{is_marked, marker}
 use Rattle.plasma_tx.specs.declared.owner.Owner.{Owner}
-use Rattle.plasma_tx.specs.declared.call.RootCall.{RootCall}
 use Rattle.wallet_core.specs.declared.coin_state.CoinState.{CoinState}
-use Rattle.wallet_core.specs.declared.coin_state.CoinState.TheVariants.{Nothing, Sending, Leaving, Held}
-use Rattle.node_rules.specs.declared.refusal.WalletRefusal.{WalletRefusal}
-use Rattle.node_rules.specs.declared.refusal.WalletRefusal.TheVariants.{AlreadyNew}
-use Rattle.node_rules.specs.Wallet.{WalletRecords, WalletEffect, answers, binds_it, coin_state, accept_effect, send_effect, leave_from, leave_effect, reclaim_effect, migrate_effect}
-use Rattle.node_rules.proofs.WalletRole.{leaves_are_answered}
+use Rattle.wallet_core.specs.declared.coin_state.CoinState.TheVariants.{Nothing, Held}
 use Rattle.node_replies.proofs.WalletEnds.{AcceptEnds, SendEnds, ReclaimEnds, Refused, Known, New, Sends, Takes, accept_ends, send_ends, reclaim_ends}
 
 -- a refused command adds nothing
@@ -70,9 +64,7 @@ module _ (dig : List ℕ → List ℕ) (wallet : WalletRecords) (log : List Root
     where
       at : (state : CoinState) → (leave_from dig wallet log coin state).leaf ≡ None
       at Nothing = refl
-      at (Sending tip q) = refl
-      at (Leaving tip) = refl
-      at (Held tip) = refl
+      at state = refl
 
   pub leave-bare : (coin : ℕ) (why : WalletRefusal) → AddsNothing (leave_effect dig wallet log coin) why
   unfolding leave_effect
@@ -80,13 +72,11 @@ module _ (dig : List ℕ → List ℕ) (wallet : WalletRecords) (log : List Root
     where
       at : (state : CoinState) → coin_state dig wallet log coin ≡ state
           → AddsNothing (leave_from dig wallet log coin state) why
-      at Nothing is refused = (refl, refl)
-      at (Sending tip q) is refused = (refl, refl)
-      at (Leaving tip) is refused = (refl, refl)
       at (Held tip) is refused =
           let found = leaves_are_answered dig wallet log coin tip (inl is) in
           not-refused (leave_from dig wallet log coin (Held tip)) _ why
           (ap (λ s. (leave_from dig wallet log coin s).answer) (sym is) ∙ found.2) refused
+      at state is refused = (refl, refl)
 
   -- ---- reclaim
 

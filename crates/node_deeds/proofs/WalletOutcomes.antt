@@ -1,17 +1,7 @@
 -- How what a node's command answered and did becomes what an order gives out and does.
-use Rattle.std.proofs.Common.{◌≡◌, ◌⊎◌, ℕ, Bool, false, List, Option, Some, None, Ok, Err, inl, inr, refl, sym, ap, subst}
-use Rattle.std.specs.Prelude.{Result, IfOk}
-use Rattle.crash_disk.specs.Disk.{History, FaultPlan}
-use Rattle.node_journal.specs.declared.stop.Stop.{Stop}
+use Rattle.node_deeds.proofs.Words.{◌≡◌, ◌⊎◌, ℕ, Bool, false, List, Option, Some, None, Ok, Err, inl, inr, refl, sym, ap, subst, Result, IfOk, History, FaultPlan, Stop, NotesState, Did, stopped_by, WalletRefusal, RefusedMemory, wallet_cause, Response, answered, Given, IsGiven}
 use Rattle.node_journal.specs.declared.stop.Stop.TheVariants.{Closed, NoMemory, DeviceFault}
-use Rattle.node_journal.specs.Notes.{NotesState, Did, stopped_by}
-use Rattle.node_rules.specs.declared.refusal.WalletRefusal.{WalletRefusal}
-use Rattle.node_rules.specs.declared.refusal.WalletRefusal.TheVariants.{NoMemory as RefusedMemory}
 use Rattle.wallet_node.specs.State.{WalletState, notes_part, leaves_part, stop_in, DidNote, DidLeaf}
-use Rattle.node_replies.specs.Causes.{wallet_cause}
-use Rattle.node_replies.specs.Orders.{Response, answered}
-use Rattle.node_replies.specs.declared.given.Given.{Given}
-use Rattle.node_replies.specs.Given.{IsGiven}
 use Rattle.node_deeds.specs.WalletOrders.{DidEither}
 use Rattle.node_deeds.specs.WalletInside.{HandsOn}
 

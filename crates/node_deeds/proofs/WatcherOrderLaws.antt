@@ -1,20 +1,15 @@
 -- Laws of orders to a watcher.
-use Rattle.std.proofs.Common.{◌≡◌, ℕ, List, [], true, ◌<◌, Option, Some, None, refl}
-use Rattle.std.specs.Prelude.{IfSome}
+use Rattle.node_deeds.proofs.Words.{◌≡◌, ℕ, List, [], true, ◌<◌, Option, Some, None, refl, IfSome, are_of, watcher_kinds, guard_effect, release_effect, with_record, watcher_does}
 use Rattle.std.proofs.lemmas.List.Elements.{All-nil}
-use Rattle.node_journal.specs.Role.{are_of}
-use Rattle.node_rules.specs.Watcher.{watcher_kinds, guard_effect, release_effect}
 use Rattle.node_rules.specs.WatcherLaws.{KeepsRole}
 use Rattle.node_rules.proofs.WatcherRole.{commands_keep_the_role}
-use Rattle.node_replies.specs.Orders.{with_record, watcher_does}
 use Rattle.node_replies.specs.declared.order.WatcherOrder.{WatcherOrder}
 use Rattle.node_deeds.specs.WatcherLaws.{OrdersAddNoLeaf, OrdersKeepTheRole}
 
 pub orders_add_no_leaf : OrdersAddNoLeaf
 unfolding watcher_does
 orders_add_no_leaf dig log notes (WatcherOrder.Guard bytes) = refl
-orders_add_no_leaf dig log notes (WatcherOrder.Release coin tip) = refl
-orders_add_no_leaf dig log notes WatcherOrder.Watch = refl
+orders_add_no_leaf dig log notes it = refl
 
 -- the records are still a watcher's where what is added may follow
 kept : (dig : List ℕ → List ℕ) (notes : List (List ℕ)) (added : Option (List ℕ))

@@ -2,7 +2,8 @@ use Rattle.node_rules.specs.Watcher.{guard_effect}
 use Rattle.watcher_node.specs.State.{stop_in}
 use Rattle.node_replies.specs.Causes.{watcher_cause}
 use Rattle.node_replies.specs.Orders.{on_guarded}
-use Rattle.node_deeds.proofs.WatcherOrders.{guard-refused, given-refused, did-refused}
+use Rattle.node_deeds.proofs.WatcherOrders.{guard-refused}
+use Rattle.node_deeds.proofs.OperatorOrders.{given-refused, did-refused}
 use Rattle.node_deeds.proofs.watcher.running.guard.Goals as goal
 
 pub returns-in-Err-clause-gives : goal.returns-in-Err-clause-gives
