@@ -1,14 +1,6 @@
 -- Disks that are begun: nothing but want of memory refuses empty ones, and they get no fuse.
-use Rattle.std.proofs.Common.{◌≡◌, ◌<◌, ◌||◌, [], ℕ, false, List, length, Result, Ok, Err, inl, inr, refl, sym, ◌∙◌, ap, subst, arith}
-use Rattle.std.proofs.lemmas.Bool.{false≢true}
-use Rattle.std.proofs.lemmas.Grind.{common_steps}
-use Rattle.crash_disk.specs.Disk.{Step, asks_length, content, with_call, is_spent, fails_first}
-use Rattle.crash_disk.specs.Memory.{MemState, plan_of}
-use Rattle.crash_disk.proofs.Plans.{passing-no_fuse}
-use Rattle.node_journal.specs.Begin.{is_taken, init_steps, journal_steps, InitsOver, Inits, IsNotTold, IsAsked, RefusesPair, BeginsPair}
-use Rattle.gate_journal.specs.declared.refusal.InitRefusal.{InitRefusal}
+use Rattle.world_nodes.proofs.Words.{◌≡◌, ◌<◌, ◌||◌, [], ℕ, false, List, length, Result, Ok, Err, inl, inr, refl, sym, ◌∙◌, ap, subst, arith, false≢true, common_steps, Step, asks_length, content, with_call, is_spent, fails_first, MemState, plan_of, passing-no_fuse, is_taken, init_steps, journal_steps, InitsOver, Inits, IsNotTold, IsAsked, RefusesPair, BeginsPair, InitRefusal, mem_told, mem_plan, mem_faults, NoneListed, HasNoFuse, empty_disk}
 use Rattle.gate_journal.specs.declared.refusal.InitRefusal.TheVariants.{AlreadyMade as InitMade, DeviceFault as InitFault, NoMemory as InitNoMemory}
-use Rattle.world_nodes.specs.Inside.{mem_told, mem_plan, mem_faults, NoneListed, HasNoFuse, empty_disk}
 use Rattle.world_nodes.proofs.Declared.{empty_listed, unfolded_asked, asked_listed}
 use Rattle.world_nodes.proofs.Ready.{planned-unfused}
 

@@ -1,38 +1,5 @@
 -- What the disks of a node tell whose order was cut, and the images that its crash leaves of them.
-use Rattle.std.proofs.Common.{◌≡◌, ◌⊎◌, ◌-◌, [], ℕ, min, Bool, true, false, cond, nat_lt, List, Option, Some, None, Result, inl, inr, refl, sym, ◌∙◌, ap, arith}
-use Rattle.std.specs.Option.{option_map}
-use Rattle.std.proofs.lemmas.Bool.{ltb-true}
-use Rattle.std.proofs.lemmas.Grind.{common_steps}
-use Rattle.crash_disk.specs.Disk.{History}
-use Rattle.crash_disk.specs.Memory.{MemState, plan_of, with_fuse}
-use Rattle.crash_disk.specs.Outcomes.{HasPattern}
-use Rattle.crash_disk.specs.declared.outcome.Outcome.{Outcome}
-use Rattle.crash_disk.proofs.Plans.{passing-fuse}
-use Rattle.gate_journal.specs.Journal.{RefusesOpen}
-use Rattle.node_journal.specs.Notes.{NotesState, Did}
-use Rattle.node_journal.specs.Role.{role_in}
-use Rattle.gate_journal.specs.declared.refusal.JournalRefusal.TheVariants.{DeviceFault as JournalFault}
-use Rattle.leaf_journal.specs.Records.{leaf_records_in_of}
-use Rattle.plasma_tx.specs.declared.call.RootCall.{RootCall}
-use Rattle.node_rules.specs.WalletRecords.{wallet_kinds, is_body}
-use Rattle.node_rules.specs.Watcher.{watcher_kinds}
-use Rattle.node_rules.specs.WalletOpening.{leaves_of as key_leaves}
-use Rattle.operator_rules.specs.Records.{operator_kinds}
-use Rattle.wallet_node.specs.State.{WalletState, notes_part, leaves_part}
-use Rattle.world_rules.specs.World.{Role}
-use Rattle.node_replies.specs.Orders.{Doing}
-use Rattle.node_replies.specs.declared.given.Given.{Given}
-use Rattle.node_deeds.specs.WalletOrders.{DidEither}
-use Rattle.node_replies.specs.declared.order.NodeOrder.{NodeOrder}
-use Rattle.node_replies.specs.declared.order.NodeOrder.TheVariants.{Open}
-use Rattle.world_nodes.specs.declared.down.DownNode.{DownNode}
-use Rattle.world_nodes.specs.declared.down.DownNode.TheVariants.{Wallet as WalletDown, Watcher as WatcherDown, Operator as OperatorDown}
-use Rattle.world_nodes.specs.declared.up.UpNode.{UpNode}
-use Rattle.world_nodes.specs.declared.up.UpNode.TheVariants.{Wallet as WalletUp, Watcher as WatcherUp, Operator as OperatorUp}
-use Rattle.world_nodes.specs.Orders.{is_opening_order}
-use Rattle.world_nodes.specs.Nodes.{with_opening, crashed_disk}
-use Rattle.world_nodes.specs.Cuts.{with_cut_opening, with_cut_append, DisksCrash}
-use Rattle.world_nodes.specs.Inside.{mem_told, mem_plan, mem_faults, NoneListed, Half, Halves, kept_of, kept_half, crashed, NoneListedOf, leaves_of, down_halves, with_disks, taken_down, Opens, RefusesDown, UpDid, stop_in, up_halves, view_in}
+use Rattle.world_nodes.proofs.Words.{◌≡◌, ◌⊎◌, ◌-◌, [], ℕ, min, Bool, true, false, cond, nat_lt, List, Option, Some, None, Result, inl, inr, refl, sym, ◌∙◌, ap, arith, option_map, ltb-true, common_steps, History, MemState, plan_of, with_fuse, HasPattern, Outcome, passing-fuse, RefusesOpen, NotesState, Did, role_in, JournalFault, leaf_records_in_of, RootCall, wallet_kinds, is_body, watcher_kinds, key_leaves, operator_kinds, WalletState, notes_part, leaves_part, Role, Doing, Given, DidEither, NodeOrder, Open, DownNode, WalletDown, WatcherDown, OperatorDown, UpNode, WalletUp, WatcherUp, OperatorUp, is_opening_order, with_opening, crashed_disk, with_cut_opening, with_cut_append, DisksCrash, mem_told, mem_plan, mem_faults, NoneListed, Half, Halves, kept_of, kept_half, crashed, NoneListedOf, leaves_of, down_halves, with_disks, taken_down, Opens, RefusesDown, UpDid, stop_in, up_halves, view_in}
 use Rattle.world_nodes.proofs.Halves.{HalfOpened, half_opened, role_reads, leaf_reads}
 use Rattle.world_nodes.proofs.Stops.{went_told, met_told}
 use Rattle.world_nodes.proofs.Runs.{KeepsAll, AddsFew, UpOpened, opened_told}

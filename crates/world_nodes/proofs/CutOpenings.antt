@@ -1,27 +1,6 @@
 -- What crashes leave of openings that were cut.
-use Rattle.std.proofs.Common.{◌≡◌, ◌+◌, ◌∷◌, [], ℕ, zero, suc, min, true, false, nat_lt, List, length, Result, inl, inr, refl, sym, ◌∙◌, subst, arith}
-use Rattle.std.specs.Prelude.{◌≤◌}
-use Rattle.std.proofs.lemmas.Bool.{ltb-true}
-use Rattle.std.proofs.lemmas.Grind.{common_steps}
-use Rattle.crash_disk.specs.Disk.{History, MayLeave, content}
-use Rattle.crash_disk.specs.Calls.{failed_after, after_course}
-use Rattle.crash_disk.specs.Memory.{MemState, plan_of, with_fuse}
-use Rattle.crash_disk.specs.declared.outcome.Outcome.{Outcome}
-use Rattle.crash_disk.proofs.Plans.{passing-fuse}
-use Rattle.gate_journal.specs.Steps.{open_steps}
-use Rattle.gate_journal.specs.Journal.{RefusesOpen}
-use Rattle.gate_journal.specs.declared.refusal.JournalRefusal.TheVariants.{DeviceFault as JournalFault}
+use Rattle.world_nodes.proofs.Words.{◌≡◌, ◌+◌, ◌∷◌, [], ℕ, zero, suc, min, true, false, nat_lt, List, length, Result, inl, inr, refl, sym, ◌∙◌, subst, arith, ◌≤◌, ltb-true, common_steps, History, MayLeave, content, failed_after, after_course, MemState, plan_of, with_fuse, Outcome, passing-fuse, open_steps, RefusesOpen, JournalFault, NotesState, role_in, wallet_kinds, watcher_kinds, operator_kinds, wallet_of, DownNode, WalletDown, WatcherDown, OperatorDown, EachKeeps, IsLeft, mem_told, mem_plan, NoneListed, Half, kept_of, kept_half, crashed, NoneListedOf, leaves_of, bare_node, down_kind, down_halves, with_disks, RefusesDown}
 use Rattle.gate_journal.proofs.Stopped.{stopped_openings}
-use Rattle.node_journal.specs.Notes.{NotesState}
-use Rattle.node_journal.specs.Role.{role_in}
-use Rattle.node_rules.specs.WalletRecords.{wallet_kinds}
-use Rattle.node_rules.specs.Watcher.{watcher_kinds}
-use Rattle.operator_rules.specs.Records.{operator_kinds}
-use Rattle.world_rules.specs.World.{wallet_of}
-use Rattle.world_nodes.specs.declared.down.DownNode.{DownNode}
-use Rattle.world_nodes.specs.declared.down.DownNode.TheVariants.{Wallet as WalletDown, Watcher as WatcherDown, Operator as OperatorDown}
-use Rattle.world_nodes.specs.Nodes.{EachKeeps}
-use Rattle.world_nodes.specs.Inside.{IsBegun as IsLeft, mem_told, mem_plan, NoneListed, Half, kept_of, kept_half, crashed, NoneListedOf, leaves_of, bare_node, down_kind, down_halves, with_disks, RefusesDown}
 use Rattle.world_nodes.proofs.Halves.{HalfOpened, half_opened, role_reads, planned_listed, kept_left}
 use Rattle.world_nodes.proofs.Runs.{KeepsAll}
 use Rattle.world_nodes.proofs.Cuts.{AreLeft}

@@ -1,37 +1,5 @@
 -- What crashes and cuts leave of the halves of a node, and so of the node.
-use Rattle.std.proofs.Common.{◌≡◌, ◌⊎◌, ◌-◌, [], ℕ, min, Bool, true, false, cond, nat_lt, List, Option, Some, None, inl, inr, refl, sym, ◌∙◌, ap, subst, arith}
-use Rattle.std.specs.Prelude.{◌&&◌, ◌||◌}
-use Rattle.std.specs.Option.{ForSome, option_map, option_map_or, is_some}
-use Rattle.std.proofs.lemmas.Grind.{common_steps}
-use Rattle.crash_disk.specs.Memory.{MemState, with_fuse}
-use Rattle.crash_disk.specs.Outcomes.{HasPattern}
-use Rattle.crash_disk.specs.declared.outcome.Outcome.{Outcome}
-use Rattle.crash_disk.proofs.Left.{content_may_be_left}
-use Rattle.gate_journal.specs.Laws.{is_added}
-use Rattle.node_journal.specs.Notes.{NotesState}
-use Rattle.node_journal.specs.Role.{role_in}
-use Rattle.node_journal.specs.declared.stop.Stop.{Stop}
-use Rattle.leaf_journal.specs.Records.{leaf_records_in_of}
-use Rattle.plasma_tx.specs.declared.call.RootCall.{RootCall}
-use Rattle.node_rules.specs.WalletRecords.{wallet_kinds, is_body}
-use Rattle.node_rules.specs.Watcher.{watcher_kinds}
-use Rattle.node_rules.specs.WalletOpening.{leaves_of as key_leaves}
-use Rattle.operator_rules.specs.Records.{operator_kinds}
-use Rattle.wallet_node.specs.State.{WalletState, notes_part, leaves_part}
-use Rattle.world_rules.specs.World.{Role}
-use Rattle.node_replies.specs.Orders.{Doing, adds_record, with_record}
-use Rattle.world_rules.specs.Steps.{after_crash}
-use Rattle.node_replies.specs.declared.given.Given.{Given}
-use Rattle.node_deeds.specs.WalletOrders.{DidEither}
-use Rattle.world_nodes.specs.declared.down.DownNode.{DownNode}
-use Rattle.world_nodes.specs.declared.down.DownNode.TheVariants.{Wallet as WalletDown, Watcher as WatcherDown, Operator as OperatorDown}
-use Rattle.world_nodes.specs.declared.up.UpNode.{UpNode}
-use Rattle.world_nodes.specs.declared.up.UpNode.TheVariants.{Wallet as WalletUp, Watcher as WatcherUp, Operator as OperatorUp}
-use Rattle.world_nodes.specs.declared.entry.Site.{Site}
-use Rattle.world_nodes.specs.declared.entry.Site.TheVariants.{Down}
-use Rattle.world_nodes.specs.declared.entry.Member.{Member}
-use Rattle.world_nodes.specs.Nodes.{EachKeeps, Crashes, crashed_disk}
-use Rattle.world_nodes.specs.Inside.{IsBegun as IsLeft, mem_told, mem_plan, mem_faults, NoneListed, Half, Halves, kept_of, kept_half, crashed, NoneListedOf, leaves_of, down_kind, down_halves, with_disks, up_kind, up_halves, taken_down, Opens, UpDid, IsDownOf, stop_in, member_kind, halves_of, view_in, IsOf, IsWhole}
+use Rattle.world_nodes.proofs.Words.{◌≡◌, ◌⊎◌, ◌-◌, [], ℕ, min, Bool, true, false, cond, nat_lt, List, Option, Some, None, inl, inr, refl, sym, ◌∙◌, ap, subst, arith, ◌&&◌, ◌||◌, ForSome, option_map, option_map_or, is_some, common_steps, MemState, with_fuse, HasPattern, Outcome, content_may_be_left, is_added, NotesState, role_in, Stop, leaf_records_in_of, RootCall, wallet_kinds, is_body, watcher_kinds, key_leaves, operator_kinds, WalletState, notes_part, leaves_part, Role, Doing, adds_record, with_record, after_crash, Given, DidEither, DownNode, WalletDown, WatcherDown, OperatorDown, UpNode, WalletUp, WatcherUp, OperatorUp, Site, Down, Member, EachKeeps, Crashes, crashed_disk, IsLeft, mem_told, mem_plan, mem_faults, NoneListed, Half, Halves, kept_of, kept_half, crashed, NoneListedOf, leaves_of, down_kind, down_halves, with_disks, up_kind, up_halves, taken_down, Opens, UpDid, IsDownOf, stop_in, member_kind, halves_of, view_in, IsOf, IsWhole}
 use Rattle.world_nodes.proofs.Halves.{HalfOpened, half_opened, role_reads, leaf_reads, kept_left}
 use Rattle.world_nodes.proofs.Stops.{same_if, idle, went, met}
 use Rattle.world_nodes.proofs.Runs.{KeepsAll, AddsFew}

@@ -1,30 +1,7 @@
 -- Nodes that are declared.
-use Rattle.std.proofs.Common.{◌≡◌, ◌∷◌, [], ℕ, true, false, List, length, Option, Some, None, Result, Ok, refl, sym, ◌∙◌, ap, subst, arith}
-use Rattle.std.specs.Option.{ForSome, option_map, option_map_or, unwrap_or}
-use Rattle.std.specs.List.{slice_get}
-use Rattle.std.specs.Result.{OnOk, IfOk}
+use Rattle.world_nodes.proofs.Words.{◌≡◌, ◌∷◌, [], ℕ, true, false, List, length, Option, Some, None, Result, Ok, refl, sym, ◌∙◌, ap, subst, arith, ForSome, option_map, option_map_or, unwrap_or, slice_get, OnOk, IfOk, common_steps, Step, asks_length, content, with_call, after_calls, WhereTold, MemState, none_listed, IsSettled, InitRefusal, init_steps, journal_steps, InitsOver, Inits, IsAsked, BeginsPair, public_key_of, Owner, WalletIdentity, identity_text, identity_in, owner_of, secret_of, who_is, new_node, DownNode, WalletDown, UpNode, Up, Down, Member, NodeView, EachKeeps, Spells, role_of, with_opening, with_beginning, begun_alone, begun_beside_leaves, begun_leaves, DiskBegan, DisksBegan, mem_told, mem_plan, mem_faults, NoneListed, Half, kept_half, leaves_of, down_kind, down_halves, up_halves, up_hash, Opens, empty_disk, member_kind, view_of, IsOf, IsWho, IsWhole, IsBegun, AreBegun, notes_told, leaves_told, first_note, IsIdentityOf, IsDeclared, NoFuses}
 use Rattle.std.proofs.lemmas.Result.{IfOk-at_ok}
-use Rattle.std.proofs.lemmas.Grind.{common_steps}
-use Rattle.crash_disk.specs.Disk.{Step, asks_length, content, with_call, after_calls}
-use Rattle.crash_disk.specs.Calls.{WhereTold}
-use Rattle.crash_disk.specs.Memory.{MemState}
-use Rattle.crash_disk.proofs.Plans.{none_listed}
-use Rattle.gate_journal.specs.Journal.{IsSettled}
-use Rattle.gate_journal.specs.declared.refusal.InitRefusal.{InitRefusal}
-use Rattle.node_journal.specs.Begin.{init_steps, journal_steps, InitsOver, Inits, IsAsked, BeginsPair}
 use Rattle.lms_sign.specs.declared.secret.Secret.{Secret}
-use Rattle.lms_sign.specs.Tree.{public_key_of}
-use Rattle.plasma_tx.specs.declared.owner.Owner.{Owner}
-use Rattle.node_rules.specs.declared.identity.WalletIdentity.{WalletIdentity}
-use Rattle.node_rules.specs.WalletRecords.{identity_text, identity_in, owner_of, secret_of, who_is}
-use Rattle.world_rules.specs.Steps.{new_node}
-use Rattle.world_nodes.specs.declared.down.DownNode.{DownNode}
-use Rattle.world_nodes.specs.declared.down.DownNode.TheVariants.{Wallet as WalletDown}
-use Rattle.world_nodes.specs.declared.up.UpNode.{UpNode}
-use Rattle.world_nodes.specs.declared.entry.Site.TheVariants.{Up, Down}
-use Rattle.world_nodes.specs.declared.entry.Member.{Member}
-use Rattle.world_nodes.specs.Nodes.{NodeView, EachKeeps, Spells, role_of, with_opening, with_beginning, begun_alone, begun_beside_leaves, begun_leaves, DiskBegan, DisksBegan}
-use Rattle.world_nodes.specs.Inside.{mem_told, mem_plan, mem_faults, NoneListed, Half, kept_half, leaves_of, down_kind, down_halves, up_halves, up_hash, Opens, empty_disk, member_kind, view_of, IsOf, IsWho, IsWhole, IsBegun, AreBegun, notes_told, leaves_told, first_note, IsIdentityOf, IsDeclared, NoFuses}
 use Rattle.world_nodes.proofs.Halves.{planned_listed}
 use Rattle.world_nodes.proofs.Runs.{KeepsAll, up_has, keeps_view, up_opened, opened_told, opened_keeps, opened_same, whole_opened}
 

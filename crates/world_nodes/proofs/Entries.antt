@@ -1,36 +1,7 @@
 -- What the calls of an entry do to its node.
-use Rattle.std.proofs.Common.{◌≡◌, ◌-◌, ◌∷◌, ◌++◌, [], ℕ, min, Bool, true, false, cond, not, List, length, Option, Some, None, refl, sym, ◌∙◌, ap, subst, arith, length-append}
-use Rattle.std.specs.Prelude.{◌&&◌}
-use Rattle.std.specs.Option.{IfSome, option_or}
-use Rattle.std.specs.List.{slice_get}
+use Rattle.world_nodes.proofs.Words.{◌≡◌, ◌-◌, ◌∷◌, ◌++◌, [], ℕ, min, Bool, true, false, cond, not, List, length, Option, Some, None, refl, sym, ◌∙◌, ap, subst, arith, length-append, ◌&&◌, IfSome, option_or, slice_get, common_steps, with_fuse, HasPattern, Outcome, is_added, RootCall, Role, Node, Doing, with_record, after_crash, Given, IsGiven, NodeOrder, Open, CutEnd, CutDown, CutStopped, CutDone, Counts, DownNode, UpNode, Site, Up, Down, Member, fits, is_opening_order, node_does, with_records, NodeView, role_of, Spells, IsDone, Crashes, is_kept, DisksCrash, Ends, Cuts, Halves, crashed, leaves_of, bare_node, down_kind, down_halves, with_disks, up_kind, up_halves, up_hash, taken_down, Opens, UpDid, IsDownOf, IsCutShort, IsCutOpening, opening_gives, counts_of, kept_behind, end_in, member_kind, is_up, halves_of, view_in, view_of, IsOf, IsWhole}
 use Rattle.std.proofs.lemmas.Option.{slice_get_past, slice_get_read}
 use Rattle.std.proofs.Math.Seq.{get_or-append_seam}
-use Rattle.std.proofs.lemmas.Grind.{common_steps}
-use Rattle.crash_disk.specs.Memory.{with_fuse}
-use Rattle.crash_disk.specs.Outcomes.{HasPattern}
-use Rattle.crash_disk.specs.declared.outcome.Outcome.{Outcome}
-use Rattle.gate_journal.specs.Laws.{is_added}
-use Rattle.plasma_tx.specs.declared.call.RootCall.{RootCall}
-use Rattle.world_rules.specs.World.{Role, Node}
-use Rattle.node_replies.specs.Orders.{Doing, with_record}
-use Rattle.world_rules.specs.Steps.{after_crash}
-use Rattle.node_replies.specs.declared.given.Given.{Given}
-use Rattle.node_replies.specs.Given.{IsGiven}
-use Rattle.node_replies.specs.declared.order.NodeOrder.{NodeOrder}
-use Rattle.node_replies.specs.declared.order.NodeOrder.TheVariants.{Open}
-use Rattle.world_nodes.specs.declared.order.CutEnd.{CutEnd}
-use Rattle.world_nodes.specs.declared.order.CutEnd.TheVariants.{Down as CutDown, Stopped as CutStopped, Done as CutDone}
-use Rattle.world_nodes.specs.declared.kept.Counts.{Counts}
-use Rattle.world_nodes.specs.declared.down.DownNode.{DownNode}
-use Rattle.world_nodes.specs.declared.up.UpNode.{UpNode}
-use Rattle.world_nodes.specs.declared.entry.Site.{Site}
-use Rattle.world_nodes.specs.declared.entry.Site.TheVariants.{Up, Down}
-use Rattle.world_nodes.specs.declared.entry.Member.{Member}
-use Rattle.world_nodes.specs.Orders.{fits, is_opening_order}
-use Rattle.world_rules.specs.Orders.{node_does}
-use Rattle.world_nodes.specs.Nodes.{with_records, NodeView, role_of, Spells, IsDone, Crashes}
-use Rattle.world_nodes.specs.Cuts.{is_kept, DisksCrash, Ends, Cuts}
-use Rattle.world_nodes.specs.Inside.{Halves, crashed, leaves_of, bare_node, down_kind, down_halves, with_disks, up_kind, up_halves, up_hash, taken_down, Opens, UpDid, IsDownOf, IsCutShort, IsCutOpening, opening_gives, counts_of, kept_behind, end_in, member_kind, is_up, halves_of, view_in, view_of, IsOf, IsWhole}
 use Rattle.world_nodes.proofs.Members.{stays_of}
 use Rattle.world_nodes.proofs.Runs.{KeepsAll, up_has, down_has, view_keeps, keeps_view, adds_few, same_deed, UpRan, up_ran, ran_keeps, done, whole_ran, up_opened, opened_keeps, opened_same, whole_opened, opening_done, opened_none}
 use Rattle.world_nodes.proofs.Cuts.{down_same, whole_down, AreLeft, left_keeps, whole_left, crash_left, crash_done, with_kind, CutLeaves, node_cut, left_node, cut_kind, up_left, taken_kind, left_records}

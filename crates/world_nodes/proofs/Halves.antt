@@ -1,24 +1,7 @@
 -- What a command, an opening and a crash do to one disk of a node and to the records that it has there.
-use Rattle.std.proofs.Common.{◌≡◌, ◌+◌, [], ℕ, Bool, true, false, cond, List, Option, Some, None, Result, Ok, Err, refl, sym, ◌∙◌, ap, subst, arith}
-use Rattle.std.specs.Option.{option_map, unwrap_or}
-use Rattle.std.specs.Result.{result_ok}
-use Rattle.std.proofs.lemmas.Grind.{common_steps}
-use Rattle.crash_disk.specs.Disk.{content, FaultPlan, after_calls, passing}
-use Rattle.crash_disk.specs.Memory.{MemState, plan_of}
-use Rattle.crash_disk.specs.Outcomes.{image_after}
-use Rattle.crash_disk.specs.declared.outcome.Outcome.{Outcome}
+use Rattle.world_nodes.proofs.Words.{◌≡◌, ◌+◌, [], ℕ, Bool, true, false, cond, List, Option, Some, None, Result, Ok, Err, refl, sym, ◌∙◌, ap, subst, arith, option_map, unwrap_or, result_ok, common_steps, content, FaultPlan, after_calls, passing, MemState, plan_of, image_after, Outcome, content_may_be_left, fresh_disk_leaves_itself, listed-after_calls, journal_in, Keeps, IsSettled, NotesState, Did, Opened, Kinds, are_of, read_of_kinds, role_in, leaf_records_read_of, leaf_records_in_of, with_record, EachKeeps, with_append, with_opening, mem_told, mem_plan, mem_faults, NoneListed, Half, half_of, kept_half, crashed, IsLeft}
 use Rattle.crash_disk.proofs.Images.{outcomes}
-use Rattle.crash_disk.proofs.Left.{content_may_be_left, fresh_disk_leaves_itself}
-use Rattle.crash_disk.proofs.Plans.{listed-after_calls}
-use Rattle.gate_journal.specs.Image.{journal_in}
-use Rattle.gate_journal.specs.Journal.{Keeps, IsSettled}
-use Rattle.node_journal.specs.Notes.{NotesState, Did, Opened}
-use Rattle.node_journal.specs.Role.{Kinds, are_of, read_of_kinds, role_in}
-use Rattle.leaf_journal.specs.Records.{leaf_records_read_of, leaf_records_in_of}
 use Rattle.leaf_journal.proofs.Form.{all_same}
-use Rattle.node_replies.specs.Orders.{with_record}
-use Rattle.world_nodes.specs.Nodes.{EachKeeps, with_append, with_opening}
-use Rattle.world_nodes.specs.Inside.{mem_told, mem_plan, mem_faults, NoneListed, Half, half_of, kept_half, crashed, IsBegun as IsLeft}
 
 -- ---- plans
 

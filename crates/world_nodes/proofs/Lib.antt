@@ -1,3 +1,4 @@
+pub mod Words
 pub mod Halves
 pub mod Members
 pub mod Stops

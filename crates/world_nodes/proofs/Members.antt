@@ -1,18 +1,6 @@
 -- Who a node is.
-use Rattle.std.proofs.Common.{◌≡◌, ◌∷◌, [], ℕ, List, Option, Some, None, cond, refl, ◌∙◌, ap, subst, arith}
-use Rattle.std.proofs.lemmas.Grind.{common_steps}
-use Rattle.crash_disk.proofs.Plans.{none_listed}
-use Rattle.plasma_tx.specs.declared.call.RootCall.{RootCall}
-use Rattle.plasma_tx.specs.declared.owner.Owner.{Owner}
-use Rattle.node_rules.specs.declared.identity.WalletIdentity.{WalletIdentity}
-use Rattle.node_rules.specs.WalletRecords.{identity_text, who_is}
-use Rattle.world_rules.specs.World.{is_wallet_role, owner_of_node}
-use Rattle.node_replies.specs.Orders.{with_record}
-use Rattle.world_nodes.specs.declared.entry.Site.{Site}
-use Rattle.world_nodes.specs.declared.entry.Site.TheVariants.{Gone}
-use Rattle.world_nodes.specs.declared.entry.Member.{Member}
+use Rattle.world_nodes.proofs.Words.{◌≡◌, ◌∷◌, [], ℕ, List, Option, Some, None, cond, refl, ◌∙◌, ap, subst, arith, common_steps, none_listed, RootCall, Owner, WalletIdentity, identity_text, who_is, is_wallet_role, owner_of_node, with_record, Site, Gone, Member, NoneListed, Half, no_half, view_of, IsWho, IsOf, IsWhole}
 use Rattle.world_nodes.specs.declared.entry.Member.TheVariants.{Wallet as WalletMember, Watcher as WatcherMember, Operator as OperatorMember}
-use Rattle.world_nodes.specs.Inside.{NoneListed, Half, no_half, view_of, IsWho, IsOf, IsWhole}
 
 -- the first record says who a wallet is
 first_who : (identity : List ℕ) (others : List (List ℕ)) → who_is (identity ∷ others) ≡ who_is (identity ∷ [])

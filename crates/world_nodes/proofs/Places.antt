@@ -1,26 +1,5 @@
 -- What the calls of an entry do to its node, by the places of the code: the site that was taken, and where one was put.
-use Rattle.std.proofs.Common.{◌≡◌, ◌-◌, [], ℕ, min, true, false, List, Option, None, sym, ◌∙◌, subst, arith}
-use Rattle.std.proofs.lemmas.Grind.{common_steps}
-use Rattle.crash_disk.specs.Memory.{with_fuse}
-use Rattle.crash_disk.specs.Outcomes.{HasPattern}
-use Rattle.crash_disk.specs.declared.outcome.Outcome.{Outcome}
-use Rattle.plasma_tx.specs.declared.call.RootCall.{RootCall}
-use Rattle.node_replies.specs.declared.given.Given.{Given}
-use Rattle.node_replies.specs.Given.{IsGiven}
-use Rattle.node_replies.specs.declared.order.NodeOrder.{NodeOrder}
-use Rattle.node_replies.specs.declared.order.NodeOrder.TheVariants.{Open}
-use Rattle.world_nodes.specs.declared.order.CutEnd.{CutEnd}
-use Rattle.world_nodes.specs.declared.kept.Counts.{Counts}
-use Rattle.world_nodes.specs.declared.down.DownNode.{DownNode}
-use Rattle.world_nodes.specs.declared.up.UpNode.{UpNode}
-use Rattle.world_nodes.specs.declared.entry.Site.{Site}
-use Rattle.world_nodes.specs.declared.entry.Site.TheVariants.{Up, Down}
-use Rattle.world_nodes.specs.declared.entry.Member.{Member}
-use Rattle.world_nodes.specs.Orders.{fits, is_opening_order}
-use Rattle.world_rules.specs.Orders.{node_does}
-use Rattle.world_nodes.specs.Nodes.{NodeView, role_of, Spells, IsDone, Crashes}
-use Rattle.world_nodes.specs.Cuts.{Cuts}
-use Rattle.world_nodes.specs.Inside.{crashed, bare_node, down_kind, down_halves, with_disks, up_kind, up_halves, up_hash, Opens, UpDid, IsDownOf, IsCutShort, IsCutOpening, opening_gives, counts_of, end_in, view_of, IsWhole}
+use Rattle.world_nodes.proofs.Words.{◌≡◌, ◌-◌, [], ℕ, min, true, false, List, Option, None, sym, ◌∙◌, subst, arith, common_steps, with_fuse, HasPattern, Outcome, RootCall, Given, IsGiven, NodeOrder, Open, CutEnd, Counts, DownNode, UpNode, Site, Up, Down, Member, fits, is_opening_order, node_does, NodeView, role_of, Spells, IsDone, Crashes, Cuts, crashed, bare_node, down_kind, down_halves, with_disks, up_kind, up_halves, up_hash, Opens, UpDid, IsDownOf, IsCutShort, IsCutOpening, opening_gives, counts_of, end_in, view_of, IsWhole}
 use Rattle.world_nodes.proofs.Cuts.{down_is, with_kind}
 use Rattle.world_nodes.proofs.Entries.{command_done, opening_comes, crash_comes, cut_comes, cut_opening_comes}
 

@@ -1,39 +1,9 @@
 -- That nothing but want of memory stops an order of a node in a world, or refuses its disks.
-use Rattle.std.proofs.Common.{◌≡◌, ◌⊎◌, ◌<◌, ◌≤◌, [], ℕ, true, false, List, Option, Some, None, Result, Ok, Err, inl, inr, refl, sym, ◌∙◌, ap, subst, arith}
-use Rattle.std.specs.Option.{ForSome, option_map, is_some}
-use Rattle.std.specs.Result.{result_ok}
-use Rattle.std.proofs.lemmas.Bool.{false≢true, true≢false}
-use Rattle.std.proofs.lemmas.Grind.{common_steps}
-use Rattle.crash_disk.specs.Disk.{content, after_calls, passing}
-use Rattle.crash_disk.specs.Memory.{MemState, plan_of, with_fuse}
-use Rattle.crash_disk.specs.declared.outcome.Outcome.{Outcome}
-use Rattle.crash_disk.proofs.Left.{content_may_be_left}
-use Rattle.crash_disk.proofs.Plans.{fuse-after_calls, passing-fuse, passing-no_fuse}
-use Rattle.gate_journal.specs.Image.{journal_in}
-use Rattle.gate_journal.specs.Journal.{RefusesOpen}
-use Rattle.node_journal.specs.Notes.{NotesState, Did, Opened}
-use Rattle.node_journal.specs.Role.{Kinds, are_of, read_of_kinds, role_in}
+use Rattle.world_nodes.proofs.Words.{◌≡◌, ◌⊎◌, ◌<◌, ◌≤◌, [], ℕ, true, false, List, Option, Some, None, Result, Ok, Err, inl, inr, refl, sym, ◌∙◌, ap, subst, arith, ForSome, option_map, is_some, result_ok, false≢true, true≢false, common_steps, content, after_calls, passing, MemState, plan_of, with_fuse, Outcome, content_may_be_left, fuse-after_calls, passing-fuse, passing-no_fuse, journal_in, RefusesOpen, NotesState, Did, Opened, Kinds, are_of, read_of_kinds, role_in, JournalFault, JournalNoMemory, Stop, Closed, NoMemory, DeviceFault, leaf_records_of, leaf_records_read_of, leaf_records_in_of, wallet_kinds, is_body, leaves_in, notes_of, are_bound_notes, key_leaves, watcher_kinds, operator_kinds, WalletState, notes_part, leaves_part, Doing, DidEither, DownNode, WalletDown, WatcherDown, OperatorDown, UpNode, WalletUp, WatcherUp, OperatorUp, EachKeeps, role_of, AreOf, mem_told, mem_plan, mem_faults, NoneListed, HasNoFuse, HasJournal, Half, Halves, kept_of, kept_half, NoneListedOf, OfDisks, NoFuses, HaveJournals, records_in, crashed, down_kind, down_halves, with_disks, up_halves, up_closed, Opens, RefusesDown, MayOpen, IsToStop, UpDid, RunsOn}
 use Rattle.gate_journal.specs.declared.refusal.JournalRefusal.{JournalRefusal}
-use Rattle.gate_journal.specs.declared.refusal.JournalRefusal.TheVariants.{DeviceFault as JournalFault, NoMemory as JournalNoMemory}
-use Rattle.node_journal.specs.declared.stop.Stop.{Stop}
-use Rattle.node_journal.specs.declared.stop.Stop.TheVariants.{Closed, NoMemory, DeviceFault}
-use Rattle.leaf_journal.specs.Records.{leaf_records_of, leaf_records_read_of, leaf_records_in_of}
 use Rattle.node_rules.specs.Wallet.{WalletRecords}
-use Rattle.node_rules.specs.WalletRecords.{wallet_kinds, is_body, leaves_in, notes_of, are_bound_notes}
-use Rattle.node_rules.specs.WalletOpening.{leaves_of as key_leaves}
-use Rattle.node_rules.specs.Watcher.{watcher_kinds}
 use Rattle.node_rules.proofs.WalletGrow.{wallet-parts}
-use Rattle.operator_rules.specs.Records.{operator_kinds}
-use Rattle.wallet_node.specs.State.{WalletState, notes_part, leaves_part}
 use Rattle.wallet_node.specs.Opening.{RefusesWallet, IsUnbound}
-use Rattle.node_replies.specs.Orders.{Doing}
-use Rattle.node_deeds.specs.WalletOrders.{DidEither}
-use Rattle.world_nodes.specs.declared.down.DownNode.{DownNode}
-use Rattle.world_nodes.specs.declared.down.DownNode.TheVariants.{Wallet as WalletDown, Watcher as WatcherDown, Operator as OperatorDown}
-use Rattle.world_nodes.specs.declared.up.UpNode.{UpNode}
-use Rattle.world_nodes.specs.declared.up.UpNode.TheVariants.{Wallet as WalletUp, Watcher as WatcherUp, Operator as OperatorUp}
-use Rattle.world_nodes.specs.Nodes.{EachKeeps, role_of, AreOf}
-use Rattle.world_nodes.specs.Inside.{mem_told, mem_plan, mem_faults, NoneListed, HasNoFuse, HasJournal, Half, Halves, kept_of, kept_half, NoneListedOf, OfDisks, NoFuses, HaveJournals, records_in, crashed, down_kind, down_halves, with_disks, up_halves, up_closed, Opens, RefusesDown, MayOpen, IsToStop, UpDid, RunsOn}
 use Rattle.world_nodes.proofs.Runs.{KeepsAll}
 
 -- ---- plans

@@ -1,29 +1,7 @@
 -- What the calls of an entry need of its disks, and leave them, by the places of the code.
-use Rattle.std.proofs.Common.{◌≡◌, ◌<◌, ◌≤◌, ◌^◌, ◌∷◌, [], ℕ, false, List, None, refl, sym, ◌∙◌, ap, subst, arith}
-use Rattle.std.specs.List.{All}
-use Rattle.std.proofs.lemmas.Grind.{common_steps}
-use Rattle.crash_disk.specs.Disk.{content}
-use Rattle.crash_disk.specs.Memory.{with_fuse}
-use Rattle.crash_disk.specs.declared.outcome.Outcome.{Outcome}
-use Rattle.crash_disk.proofs.Left.{content_may_be_left}
-use Rattle.plasma_tx.specs.declared.call.RootCall.{RootCall}
-use Rattle.plasma_tx.specs.Spelling.{AreBytes}
+use Rattle.world_nodes.proofs.Words.{◌≡◌, ◌<◌, ◌≤◌, ◌^◌, ◌∷◌, [], ℕ, false, List, None, refl, sym, ◌∙◌, ap, subst, arith, All, common_steps, content, with_fuse, Outcome, content_may_be_left, RootCall, AreBytes, FitWords, wallet_of, Doing, NodeOrder, CutEnd, DownNode, UpNode, Site, Up, Down, Member, node_does, with_records, NodeView, role_of, Spells, AreOf, IsOfRole, Crashes, Cuts, NoneListedOf, Halves, NoFuses, records_in, crashed, down_kind, down_halves, with_disks, up_closed, up_hash, up_halves, up_kind, MayOpen, IsToStop, Opens, UpDid, RunsOn, IsDownOf, IsThere, is_up, halves_of, member_kind, view_of, IsWhole, IsReady, IsEntry, IsDeclared, first_note}
 use Rattle.plasma_tx.specs.Views.{blocks}
-use Rattle.node_rules.specs.WalletCommandLaws.{FitWords}
-use Rattle.world_rules.specs.World.{wallet_of}
-use Rattle.node_replies.specs.Orders.{Doing}
-use Rattle.node_replies.specs.declared.order.NodeOrder.{NodeOrder}
-use Rattle.world_nodes.specs.declared.order.CutEnd.{CutEnd}
-use Rattle.world_nodes.specs.declared.down.DownNode.{DownNode}
-use Rattle.world_nodes.specs.declared.up.UpNode.{UpNode}
-use Rattle.world_nodes.specs.declared.entry.Site.{Site}
-use Rattle.world_nodes.specs.declared.entry.Site.TheVariants.{Up, Down}
-use Rattle.world_nodes.specs.declared.entry.Member.{Member}
-use Rattle.world_rules.specs.Orders.{node_does}
-use Rattle.world_nodes.specs.Nodes.{with_records, NodeView, role_of, Spells, AreOf, IsOfRole, Crashes}
-use Rattle.world_nodes.specs.Cuts.{Cuts}
 use Rattle.world_nodes.specs.Boxed.{IsWholeSite}
-use Rattle.world_nodes.specs.Inside.{NoneListedOf, Halves, NoFuses, records_in, crashed, down_kind, down_halves, with_disks, up_closed, up_hash, up_halves, up_kind, MayOpen, IsToStop, Opens, UpDid, RunsOn, IsDownOf, IsThere, is_up, halves_of, member_kind, view_of, IsWhole, IsReady, IsEntry, IsDeclared, first_note}
 use Rattle.world_nodes.proofs.Runs.{KeepsAll, view_keeps}
 use Rattle.world_nodes.proofs.Cuts.{down_same, down_is, whole_down, with_kind}
 use Rattle.world_nodes.proofs.CutOpenings.{fused_keeps, fused_same}

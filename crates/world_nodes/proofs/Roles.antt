@@ -1,48 +1,15 @@
 -- That the records of a node in a world are of its role.
-use Rattle.std.proofs.Common.{◌≡◌, ◌<◌, ◌&&◌, ◌∷◌, ◌++◌, [], ℕ, Bool, true, false, if◌then◌else◌, List, length, w32, Option, Some, sym, ap, subst, arith}
+use Rattle.world_nodes.proofs.Words.{◌≡◌, ◌<◌, ◌&&◌, ◌∷◌, ◌++◌, [], ℕ, Bool, true, false, if◌then◌else◌, List, length, w32, Option, Some, sym, ap, subst, arith, is_some, All, AllByRecursion, common_steps, Outcome, content_may_be_left, mark, spelled, spelled_record, spelled_records, kept_records, RootCall, AreBytes, WalletIdentity, identity_text, notes_of, FitWords, is_wallet, WatcherIdentity, watcher_text, identity_in-text, records_behind_of, Identity, operator_text, after_crash, wallet_orders_keep, watcher_orders_keep, operator_orders_keep, NodeOrder, WalletOrdered, WatcherOrdered, OperatorOrdered, Open, CutEnd, CutDown, CutStopped, CutDone, DownNode, Site, Down, Gone, Member, fits, IsFit, node_does, with_records, NodeView, role_of, Spells, AreOf, IsOfRole, Crashes, Cuts, crashed, with_disks, member_kind, view_of, IsThere, IsReady, IsEntry, IsIdentityOf}
 use Rattle.std.specs.Int.{to_be_bytes}
-use Rattle.std.specs.Option.{is_some}
-use Rattle.std.specs.List.{All, AllByRecursion}
 use Rattle.std.proofs.lemmas.List.Elements.{All-from_recursion, recursion_from_All}
-use Rattle.std.proofs.lemmas.Grind.{common_steps}
-use Rattle.crash_disk.specs.declared.outcome.Outcome.{Outcome}
-use Rattle.crash_disk.proofs.Left.{content_may_be_left}
-use Rattle.gate_journal.specs.Image.{mark, spelled, spelled_record, spelled_records, kept_records}
 use Rattle.gate_journal.proofs.Front.{read_is_spelled}
-use Rattle.plasma_tx.specs.declared.call.RootCall.{RootCall}
-use Rattle.plasma_tx.specs.Spelling.{AreBytes}
-use Rattle.node_rules.specs.declared.identity.WalletIdentity.{WalletIdentity}
 use Rattle.node_rules.specs.WalletLaws.{IsIdentity}
-use Rattle.node_rules.specs.WalletRecords.{identity_text, notes_of}
-use Rattle.node_rules.specs.WalletCommandLaws.{FitWords}
-use Rattle.node_rules.specs.WalletOpening.{is_wallet}
-use Rattle.node_rules.specs.Watcher.{WatcherIdentity, identity_text as watcher_text}
 use Rattle.node_rules.specs.WatcherLaws.{IsIdentity as IsWatcherIdentity}
-use Rattle.node_rules.proofs.WalletTexts.{identity_in-text}
 use Rattle.node_rules.proofs.WatcherTexts.{identity_in-text as watcher_in-text}
-use Rattle.leaf_journal.specs.Records.{records_behind_of}
-use Rattle.operator_rules.specs.Records.{Identity, identity_text as operator_text}
 use Rattle.operator_rules.specs.Laws.{IsIdentity as IsOperatorIdentity}
 use Rattle.operator_rules.proofs.RecordTexts.{identity_in-text as operator_in-text}
 use Rattle.world_rules.specs.World.{Role, Wallet, Watcher, Operator, Node, wallet_of}
-use Rattle.world_rules.specs.Steps.{after_crash}
-use Rattle.node_deeds.proofs.WalletOrderLaws.{orders_keep_the_role as wallet_orders_keep}
-use Rattle.node_deeds.proofs.WatcherOrderLaws.{orders_keep_the_role as watcher_orders_keep}
-use Rattle.node_deeds.proofs.OperatorOrderLaws.{orders_keep_the_role as operator_orders_keep}
 use Rattle.world_nodes.specs.declared.order.NodeKind.TheVariants.{Wallet as WalletKind, Watcher as WatcherKind, Operator as OperatorKind}
-use Rattle.node_replies.specs.declared.order.NodeOrder.{NodeOrder}
-use Rattle.node_replies.specs.declared.order.NodeOrder.TheVariants.{Wallet as WalletOrdered, Watcher as WatcherOrdered, Operator as OperatorOrdered, Open}
-use Rattle.world_nodes.specs.declared.order.CutEnd.{CutEnd}
-use Rattle.world_nodes.specs.declared.order.CutEnd.TheVariants.{Down as CutDown, Stopped as CutStopped, Done as CutDone}
-use Rattle.world_nodes.specs.declared.down.DownNode.{DownNode}
-use Rattle.world_nodes.specs.declared.entry.Site.{Site}
-use Rattle.world_nodes.specs.declared.entry.Site.TheVariants.{Down, Gone}
-use Rattle.world_nodes.specs.declared.entry.Member.{Member}
-use Rattle.world_nodes.specs.Orders.{fits, IsFit}
-use Rattle.world_rules.specs.Orders.{node_does}
-use Rattle.world_nodes.specs.Nodes.{with_records, NodeView, role_of, Spells, AreOf, IsOfRole, Crashes}
-use Rattle.world_nodes.specs.Cuts.{Cuts}
-use Rattle.world_nodes.specs.Inside.{crashed, with_disks, member_kind, view_of, IsThere, IsReady, IsEntry, IsIdentityOf}
 use Rattle.world_nodes.proofs.Members.{lost}
 use Rattle.world_nodes.proofs.Ready.{crashed-unfused}
 

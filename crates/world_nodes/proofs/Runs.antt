@@ -1,37 +1,5 @@
 -- What orders and openings do to the halves of a node, and so to the node.
-use Rattle.std.proofs.Common.{◌≡◌, ◌⊎◌, [], ℕ, Bool, true, false, List, Option, Some, None, refl, sym, ◌∙◌, ap, subst, arith}
-use Rattle.std.specs.Option.{ForSome, option_map, option_map_or, is_some}
-use Rattle.std.proofs.lemmas.Grind.{common_steps}
-use Rattle.crash_disk.specs.Memory.{MemState}
-use Rattle.node_journal.specs.Notes.{NotesState}
-use Rattle.node_journal.specs.Role.{role_in}
-use Rattle.leaf_journal.specs.Records.{leaf_records_in_of}
-use Rattle.plasma_tx.specs.declared.call.RootCall.{RootCall}
-use Rattle.node_rules.specs.WalletRecords.{wallet_kinds, is_body}
-use Rattle.node_rules.specs.Watcher.{watcher_kinds}
-use Rattle.node_rules.specs.WalletOpening.{leaves_of as key_leaves}
-use Rattle.operator_rules.specs.Records.{operator_kinds}
-use Rattle.wallet_node.specs.State.{WalletState, notes_part, leaves_part}
-use Rattle.world_rules.specs.World.{Role, Node, is_wallet_role, wallet_of}
-use Rattle.node_replies.specs.Orders.{Doing, with_record}
-use Rattle.node_replies.specs.declared.given.Given.{Given}
-use Rattle.node_replies.specs.Given.{IsGiven}
-use Rattle.node_deeds.specs.WalletOrders.{DidEither}
-use Rattle.node_deeds.proofs.WalletOrderLaws.{orders_add_one_record}
-use Rattle.node_deeds.proofs.WatcherOrderLaws.{orders_add_no_leaf as watchers_add_no_leaf}
-use Rattle.node_deeds.proofs.OperatorOrderLaws.{orders_add_no_leaf as operators_add_no_leaf}
-use Rattle.node_replies.specs.declared.order.NodeOrder.{NodeOrder}
-use Rattle.node_replies.specs.declared.order.NodeOrder.TheVariants.{Open}
-use Rattle.world_nodes.specs.declared.down.DownNode.{DownNode}
-use Rattle.world_nodes.specs.declared.down.DownNode.TheVariants.{Wallet as WalletDown, Watcher as WatcherDown, Operator as OperatorDown}
-use Rattle.world_nodes.specs.declared.up.UpNode.{UpNode}
-use Rattle.world_nodes.specs.declared.up.UpNode.TheVariants.{Wallet as WalletUp, Watcher as WatcherUp, Operator as OperatorUp}
-use Rattle.world_nodes.specs.declared.entry.Site.TheVariants.{Up, Down}
-use Rattle.world_nodes.specs.declared.entry.Member.{Member}
-use Rattle.world_nodes.specs.Orders.{fits, is_opening_order}
-use Rattle.world_rules.specs.Orders.{node_does}
-use Rattle.world_nodes.specs.Nodes.{role_of, EachKeeps, Spells, with_append, with_opening, IsDone}
-use Rattle.world_nodes.specs.Inside.{mem_told, mem_plan, mem_faults, NoneListed, Half, Halves, half_of, kept_of, kept_half, NoneListedOf, bare_node, down_kind, down_halves, up_kind, up_halves, up_hash, up_closed, Opens, UpDid, member_kind, view_in, IsOf, IsWhole}
+use Rattle.world_nodes.proofs.Words.{◌≡◌, ◌⊎◌, [], ℕ, Bool, true, false, List, Option, Some, None, refl, sym, ◌∙◌, ap, subst, arith, ForSome, option_map, option_map_or, is_some, common_steps, MemState, NotesState, role_in, leaf_records_in_of, RootCall, wallet_kinds, is_body, watcher_kinds, key_leaves, operator_kinds, WalletState, notes_part, leaves_part, Role, Node, is_wallet_role, wallet_of, Doing, with_record, Given, IsGiven, DidEither, orders_add_one_record, watchers_add_no_leaf, operators_add_no_leaf, NodeOrder, Open, DownNode, WalletDown, WatcherDown, OperatorDown, UpNode, WalletUp, WatcherUp, OperatorUp, Up, Down, Member, fits, is_opening_order, node_does, role_of, EachKeeps, Spells, with_append, with_opening, IsDone, mem_told, mem_plan, mem_faults, NoneListed, Half, Halves, half_of, kept_of, kept_half, NoneListedOf, bare_node, down_kind, down_halves, up_kind, up_halves, up_hash, up_closed, Opens, UpDid, member_kind, view_in, IsOf, IsWhole}
 use Rattle.world_nodes.proofs.Halves.{HalfRan, half_stays, half_ran, stays_open, HalfOpened, half_opened, opened_listed, role_reads, leaf_reads}
 use Rattle.world_nodes.proofs.Members.{stays_of}
 

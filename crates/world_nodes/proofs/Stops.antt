@@ -1,26 +1,6 @@
 -- What a crash leaves of a command of which a fuse lets so many device calls pass.
-use Rattle.std.proofs.Common.{◌≡◌, ◌<◌, ◌≤◌, ◌+◌, ◌-◌, ◌∷◌, ◌++◌, [], ℕ, Bool, true, false, cond, min, nat_le, nat_lt, List, length, Option, Some, None, refl, sym, ◌∙◌, ap, subst, arith}
-use Rattle.std.specs.Prelude.{◌&&◌}
-use Rattle.std.specs.Option.{is_some}
-use Rattle.std.proofs.lemmas.Bool.Decides.{nat_tests}
-use Rattle.std.proofs.lemmas.Grind.{common_steps}
-use Rattle.crash_disk.specs.Disk.{History, after_calls, passing}
-use Rattle.crash_disk.specs.Calls.{with_made}
-use Rattle.crash_disk.specs.Memory.{MemState, plan_of, with_fuse}
-use Rattle.crash_disk.specs.Outcomes.{image_after, HasPattern}
-use Rattle.crash_disk.specs.declared.outcome.Outcome.{Outcome}
-use Rattle.crash_disk.proofs.Plans.{passing-by_fuse}
-use Rattle.gate_journal.specs.Image.{most, spelled}
-use Rattle.gate_journal.specs.Steps.{append_steps}
-use Rattle.gate_journal.specs.Journal.{Keeps}
-use Rattle.gate_journal.specs.Laws.{is_added}
+use Rattle.world_nodes.proofs.Words.{◌≡◌, ◌<◌, ◌≤◌, ◌+◌, ◌-◌, ◌∷◌, ◌++◌, [], ℕ, Bool, true, false, cond, min, nat_le, nat_lt, List, length, Option, Some, None, refl, sym, ◌∙◌, ap, subst, arith, ◌&&◌, is_some, nat_tests, common_steps, History, after_calls, passing, with_made, MemState, plan_of, with_fuse, image_after, HasPattern, Outcome, passing-by_fuse, most, spelled, append_steps, Keeps, is_added, NotesState, Did, DeviceFault, with_record, with_opening, with_cut_append, IsLeft, mem_told, mem_plan, mem_faults, NoneListed, kept_half, crashed}
 use Rattle.gate_journal.proofs.Crash.{stopped_appends}
-use Rattle.node_journal.specs.Notes.{NotesState, Did}
-use Rattle.node_journal.specs.declared.stop.Stop.TheVariants.{DeviceFault}
-use Rattle.node_replies.specs.Orders.{with_record}
-use Rattle.world_nodes.specs.Nodes.{with_opening}
-use Rattle.world_nodes.specs.Cuts.{with_cut_append}
-use Rattle.world_nodes.specs.Inside.{IsBegun as IsLeft, mem_told, mem_plan, mem_faults, NoneListed, kept_half, crashed}
 use Rattle.world_nodes.proofs.Halves.{planned_listed, HalfOpened, opened_listed, left_half, kept_left}
 
 -- as many of four pass as of any number that is at least four

@@ -1,6 +1,4 @@
-use Rattle.std.proofs.Common.{◌∙◌, arith}
-use Rattle.std.proofs.lemmas.Bool.Decides.{nat_tests}
-use Rattle.node_replies.specs.declared.reply.Reply.{Reply}
+use Rattle.world_nodes.proofs.Words.{◌∙◌, arith, nat_tests, Reply}
 use Rattle.world_nodes.proofs.cutting.open_cut.Goals as goal
 
 pub returns : goal.returns

@@ -1,9 +1,4 @@
-use Rattle.std.proofs.Common.{Some, None, subst}
-use Rattle.node_journal.specs.declared.stop.Stop.{Stop}
-use Rattle.node_replies.specs.Orders.{Doing}
-use Rattle.node_replies.specs.Given.{IsGiven}
-use Rattle.world_rules.specs.Orders.{node_does}
-use Rattle.world_nodes.specs.Inside.{bare_node, up_halves, up_hash, UpDid}
+use Rattle.world_nodes.proofs.Words.{Some, None, subst, Stop, Doing, IsGiven, node_does, bare_node, up_halves, up_hash, UpDid}
 use Rattle.world_nodes.proofs.Ready.{closed-never}
 use Rattle.world_nodes.proofs.cutting.run_cut.Goals as goal
 

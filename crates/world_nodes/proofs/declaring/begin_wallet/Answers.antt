@@ -1,6 +1,4 @@
-use Rattle.std.proofs.Common.{Some, ap}
-use Rattle.node_rules.specs.WalletRecords.{identity_text}
-use Rattle.world_nodes.specs.Inside.{HasNoFuse, kept_half}
+use Rattle.world_nodes.proofs.Words.{Some, ap, identity_text, HasNoFuse, kept_half}
 use Rattle.world_nodes.proofs.Begun.{pair-why, pair-unfused}
 use Rattle.world_nodes.proofs.Declared.{both_begun, pair_told}
 use Rattle.world_nodes.proofs.Ready.{of-half}

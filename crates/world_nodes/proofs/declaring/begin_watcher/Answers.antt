@@ -1,9 +1,5 @@
-use Rattle.std.proofs.Common.{ap, ◌∙◌}
-use Rattle.crash_disk.specs.Memory.{MemState}
-use Rattle.node_journal.specs.Begin.{init_steps}
+use Rattle.world_nodes.proofs.Words.{ap, ◌∙◌, MemState, init_steps, with_beginning, HasNoFuse}
 use Rattle.node_rules.specs.Watcher.{identity_text}
-use Rattle.world_nodes.specs.Nodes.{with_beginning}
-use Rattle.world_nodes.specs.Inside.{HasNoFuse}
 use Rattle.world_nodes.proofs.Begun.{init-why, init-unfused}
 use Rattle.world_nodes.proofs.Declared.{alone_begun, alone_told}
 use Rattle.world_nodes.proofs.Ready.{of-none}

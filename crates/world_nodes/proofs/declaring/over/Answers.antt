@@ -1,9 +1,4 @@
-use Rattle.std.proofs.Common.{◌≡◌, List, subst, sym}
-use Rattle.plasma_tx.specs.declared.call.RootCall.{RootCall}
-use Rattle.world_rules.specs.Steps.{new_node}
-use Rattle.world_nodes.specs.declared.entry.Site.TheVariants.{Up}
-use Rattle.world_nodes.specs.Nodes.{role_of, Spells}
-use Rattle.world_nodes.specs.Inside.{first_note, member_kind, view_of}
+use Rattle.world_nodes.proofs.Words.{◌≡◌, List, subst, sym, RootCall, new_node, Up, role_of, Spells, first_note, member_kind, view_of}
 use Rattle.world_nodes.proofs.Declared.{declared_comes, declared_told}
 use Rattle.world_nodes.proofs.Ready.{opened-unfused}
 use Rattle.world_nodes.proofs.ReadyAt.{declared-opens}

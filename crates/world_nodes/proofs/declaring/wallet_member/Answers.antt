@@ -1,7 +1,4 @@
-use Rattle.std.proofs.Common.{◌≡◌}
-use Rattle.lms_sign.specs.Tree.{public_key_of}
-use Rattle.node_rules.specs.WalletRecords.{secret_of}
-use Rattle.node_rules.proofs.WalletTexts.{identity_in-text}
+use Rattle.world_nodes.proofs.Words.{◌≡◌, public_key_of, secret_of, identity_in-text}
 use Rattle.world_nodes.proofs.Declared.{first_reads, wallet_is, owner_is}
 use Rattle.world_nodes.proofs.Roles.{wallet-alone}
 use Rattle.world_nodes.proofs.declaring.wallet_member.Goals as goal

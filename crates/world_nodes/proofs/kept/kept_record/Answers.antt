@@ -1,6 +1,4 @@
-use Rattle.std.proofs.Common.{refl}
-use Rattle.world_nodes.specs.declared.down.DownNode.TheVariants.{Wallet}
-use Rattle.world_nodes.specs.Inside.{kept_half}
+use Rattle.world_nodes.proofs.Words.{refl, Wallet, kept_half}
 use Rattle.world_nodes.proofs.Ready.{leaves-journal}
 use Rattle.world_nodes.proofs.kept.kept_record.Goals as goal
 

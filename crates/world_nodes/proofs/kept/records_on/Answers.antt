@@ -1,6 +1,4 @@
-use Rattle.std.proofs.Common.{◌∙◌, ap}
-use Rattle.crash_disk.specs.Disk.{content}
-use Rattle.crash_disk.specs.Memory.{MemState}
+use Rattle.world_nodes.proofs.Words.{◌∙◌, ap, content, MemState}
 use Rattle.world_nodes.proofs.Ready.{copy-opens}
 use Rattle.world_nodes.proofs.kept.records_on.Goals as goal
 

@@ -1,7 +1,4 @@
-use Rattle.std.proofs.Common.{[], ◌∙◌, refl, sym, subst}
-use Rattle.node_replies.specs.declared.reply.Reply.{Reply}
-use Rattle.world_nodes.specs.declared.entry.Site.{Site}
-use Rattle.world_nodes.specs.Inside.{IsDownOf}
+use Rattle.world_nodes.proofs.Words.{[], ◌∙◌, refl, sym, subst, Reply, Site, IsDownOf}
 use Rattle.world_nodes.proofs.Places.{opening_at}
 use Rattle.world_nodes.proofs.Roles.{lost-entry}
 use Rattle.world_nodes.proofs.ReadyAt.{there-at, opens-at, unfused-at, opened-ready}

@@ -1,6 +1,4 @@
-use Rattle.std.proofs.Common.{◌∙◌, rules}
-use Rattle.world_rules.specs.Orders.{node_does}
-use Rattle.world_nodes.specs.Inside.{bare_node, up_halves, up_hash, RunsOn}
+use Rattle.world_nodes.proofs.Words.{◌∙◌, rules, node_does, bare_node, up_halves, up_hash, RunsOn}
 use Rattle.world_nodes.proofs.Places.{command_at, up_fits}
 use Rattle.world_nodes.proofs.Roles.{lost-entry}
 use Rattle.world_nodes.proofs.ReadyAt.{open-at, runs-at, ran-ready}

@@ -1,7 +1,4 @@
-use Rattle.std.proofs.Common.{◌∙◌, [], refl, sym, subst}
-use Rattle.world_nodes.specs.declared.entry.Site.{Site}
-use Rattle.node_replies.specs.declared.order.NodeOrder.{NodeOrder}
-use Rattle.world_nodes.specs.Inside.{IsDownOf}
+use Rattle.world_nodes.proofs.Words.{◌∙◌, [], refl, sym, subst, Site, NodeOrder, IsDownOf}
 use Rattle.world_nodes.proofs.Places.{cut_opening_at}
 use Rattle.world_nodes.proofs.Roles.{lost-entry}
 use Rattle.world_nodes.proofs.ReadyAt.{there-at, fused-opens-at, stops-at, cut-ready}

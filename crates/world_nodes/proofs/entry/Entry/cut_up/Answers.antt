@@ -1,7 +1,4 @@
-use Rattle.std.proofs.Common.{◌∙◌, [], false, refl, subst, arith}
-use Rattle.world_nodes.specs.declared.entry.Site.{Site}
-use Rattle.world_nodes.specs.Nodes.{role_of}
-use Rattle.world_nodes.specs.Inside.{IsDownOf, member_kind, down_halves, end_in}
+use Rattle.world_nodes.proofs.Words.{◌∙◌, [], false, refl, subst, arith, Site, role_of, IsDownOf, member_kind, down_halves, end_in}
 use Rattle.world_nodes.proofs.Runs.{view_keeps}
 use Rattle.world_nodes.proofs.Entries.{cut_comes}
 use Rattle.world_nodes.proofs.Places.{cut_at, cut_fits}

@@ -1,6 +1,4 @@
-use Rattle.std.proofs.Common.{◌≡◌, Some, None, cond, sym, ◌∙◌, subst}
-use Rattle.world_rules.specs.World.{is_wallet_role, owner_of_node}
-use Rattle.world_nodes.specs.Nodes.{NodeView}
+use Rattle.world_nodes.proofs.Words.{◌≡◌, Some, None, cond, sym, ◌∙◌, subst, is_wallet_role, owner_of_node, NodeView}
 use Rattle.world_nodes.proofs.Members.{wallet_owner}
 use Rattle.world_nodes.proofs.entry.Entry.owner.Goals as goal
 

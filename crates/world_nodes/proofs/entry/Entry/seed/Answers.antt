@@ -1,7 +1,4 @@
-use Rattle.std.proofs.Common.{◌≡◌, Some, None, cond, sym, ◌∙◌, subst}
-use Rattle.node_rules.specs.WalletRecords.{who_is}
-use Rattle.world_rules.specs.World.{is_wallet_role}
-use Rattle.world_nodes.specs.Nodes.{NodeView}
+use Rattle.world_nodes.proofs.Words.{◌≡◌, Some, None, cond, sym, ◌∙◌, subst, who_is, is_wallet_role, NodeView}
 use Rattle.world_nodes.proofs.Members.{wallet_seed}
 use Rattle.world_nodes.proofs.entry.Entry.seed.Goals as goal
 
