@@ -71,8 +71,7 @@ module _ {D : Type 0} (told : D → Option History) (plan : D → Option FaultPl
       → DidIssue told plan faults told plan faults effect old desk (Some (AtOperator why)) new after
       → DidEach told plan faults effect.note effect.leaf old desk (Some why) new after
   at-operator DeviceFault effect old desk new after did = inl (did.1, did.2.1)
-  at-operator NoMemory effect old desk new after did = (did.1.1, did.2.1, inl did.1)
-  at-operator Closed effect old desk new after did = (did.1.1, did.2.1, inl did.1)
+  at-operator why effect old desk new after did = (did.1.1, did.2.1, inl did.1)
 
   at-desk : (why : Stop) (effect : IssueEffect) (old desk new after : NotesState D)
       → DidIssue told plan faults told plan faults effect old desk (Some (AtDesk why)) new after
