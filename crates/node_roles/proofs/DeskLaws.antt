@@ -1,17 +1,6 @@
 -- An operator and its desk that are somewhere, behind a command.
-use Rattle.std.proofs.Common.{◌≡◌, ℕ, Bool, true, false, List, ◌++◌, ◌∷◌, [], Option, Some, None, Result, Ok, Err, refl, sym, ap, ◌∙◌, inl, inr}
-use Rattle.std.specs.Prelude.{IfErr, OnOk, ◌&&◌}
-use Rattle.std.proofs.lemmas.Bool.{true≢false}
-use Rattle.crash_disk.specs.Disk.{History, FaultPlan}
-use Rattle.node_journal.specs.Notes.{NotesState, Did}
-use Rattle.node_journal.specs.declared.stop.Stop.{Stop}
-use Rattle.node_journal.specs.declared.stop.Stop.TheVariants.{Closed, NoMemory, DeviceFault}
-use Rattle.node_sessions.specs.declared.said.Said.{Said}
-use Rattle.node_answers.specs.Answers.{Outcome}
+use Rattle.node_roles.proofs.Words.{◌≡◌, ℕ, Bool, true, false, List, ◌++◌, ◌∷◌, [], Option, Some, None, Result, Ok, Err, refl, sym, ap, ◌∙◌, inl, inr, IfErr, OnOk, ◌&&◌, true≢false, History, FaultPlan, NotesState, Did, Stop, Closed, NoMemory, DeviceFault, Said, Outcome, NotesAt, IsNotesAt, Parts, both, IsNodeAt}
 use Rattle.node_answers.specs.Doing.{DidEach, DidDesk}
-use Rattle.node_roles.specs.Notes.{NotesAt, IsNotesAt}
-use Rattle.node_journal.specs.Parts.{Parts, both}
-use Rattle.node_roles.specs.Nodes.{IsNodeAt}
 use Rattle.node_roles.proofs.NodeLaws.{Goes, with-leaves}
 use Rattle.node_roles.proofs.NotesLaws.{adds-at, fails-at, same-at, stays}
 

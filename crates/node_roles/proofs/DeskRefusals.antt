@@ -1,19 +1,9 @@
 -- A refused command of an operator with a key adds nothing, and the key that its identity keeps stays.
-use Rattle.std.proofs.Common.{◌≡◌, ℕ, Bool, true, false, List, [], ◌∷◌, ◌++◌, Option, Some, None, Result, Ok, Err, refl}
-use Rattle.node_journal.specs.Role.{are_of}
-use Rattle.node_journal.specs.Effect.{Effect}
+use Rattle.node_roles.proofs.Words.{◌≡◌, ℕ, Bool, true, false, List, [], ◌∷◌, ◌++◌, Option, Some, None, Result, Ok, Err, refl, are_of, Effect, is_marked, RootCall, signed_in, blocks, OfferRefusal, forest_in, offer_effect, OperatorLine, operator_outcome}
 use Rattle.lms_sign.specs.declared.secret.Secret.{Secret}
-use Rattle.leaf_journal.specs.Records.{is_marked}
-use Rattle.plasma_tx.specs.declared.call.RootCall.{RootCall}
-use Rattle.plasma_tx.specs.Spelling.{signed_in}
-use Rattle.plasma_tx.specs.Views.{blocks}
-use Rattle.operator_rules.specs.declared.refusal.OfferRefusal.{OfferRefusal}
 use Rattle.operator_rules.specs.Records.{operator_kinds, who_is}
-use Rattle.operator_rules.specs.Commands.{forest_in, offer_effect}
 use Rattle.receipt_audit.specs.declared.refusal.IssueRefusal.{IssueRefusal}
 use Rattle.receipt_audit.specs.Desk.{IssueEffect, issue_effect, issue_or, receipt_or, record_or}
-use Rattle.node_lines.specs.declared.operator_line.OperatorLine.{OperatorLine}
-use Rattle.node_answers.specs.Answers.{operator_outcome}
 use Rattle.node_answers.specs.Desks.{DeskRecords, desk_outcome, issue_outcome, migration_outcome, secret_of}
 use Rattle.node_roles.proofs.Refusals.{AddsNothingRefused}
 use Rattle.node_roles.proofs.OperatorRefusals.{offer-quiet, operator-quiet}

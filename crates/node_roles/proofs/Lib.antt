@@ -7,3 +7,4 @@ mod WalletLaws
 mod WalletRefusals
 mod DeskLaws
 mod DeskRefusals
+mod Words

@@ -1,19 +1,7 @@
 -- A node that is somewhere, behind a command.
-use Rattle.std.proofs.Common.{◌≡◌, ℕ, List, Option, Some, None, option_map, Result, Ok, Err, refl, ap, subst, inl, inr}
-use Rattle.std.specs.Prelude.{IfOk, IfErr}
-use Rattle.crash_disk.specs.Disk.{History}
-use Rattle.plasma_tx.specs.declared.call.RootCall.{RootCall}
-use Rattle.node_journal.specs.Notes.{NotesState}
-use Rattle.node_journal.specs.declared.stop.Stop.{Stop}
-use Rattle.node_journal.specs.declared.stop.Stop.TheVariants.{Closed, NoMemory, DeviceFault}
-use Rattle.node_sessions.specs.declared.said.Said.{Said}
+use Rattle.node_roles.proofs.Words.{◌≡◌, ℕ, List, Option, Some, None, option_map, Result, Ok, Err, refl, ap, subst, inl, inr, IfOk, IfErr, History, RootCall, NotesState, Stop, Closed, NoMemory, DeviceFault, Said, Outcome, IsSaid, StopsIn, NotesAt, with_note, StaysAt, IsNotesAt, FailedAt, Parts, both, of_each, OfLeaves, with_effect, EachFails, NodeAt, keeping, records_at, Commands, left_with, node_with, outcome_at, node_does, IsNodeAt, StoppedAt}
 use Rattle.node_sessions.specs.declared.said.Said.TheVariants.{Answered, Refused}
-use Rattle.node_answers.specs.Answers.{Outcome, IsSaid, StopsIn}
 use Rattle.node_sessions.specs.Commands.{IsDone}
-use Rattle.node_roles.specs.Notes.{NotesAt, with_note, StaysAt, IsNotesAt, FailedAt}
-use Rattle.node_journal.specs.Parts.{Parts, both, of_each, OfLeaves}
-use Rattle.node_roles.specs.Parts.{with_effect, EachFails}
-use Rattle.node_roles.specs.Nodes.{NodeAt, keeping, records_at, Commands, left_with, node_with, outcome_at, node_does, IsNodeAt, StoppedAt}
 use Rattle.node_roles.proofs.Refusals.{AddsNothingRefused}
 
 -- what a node did in a command, by what stopped it, and was answered so

@@ -1,20 +1,8 @@
 -- Notes that are somewhere, behind a command; of a node that has no others, and of any two.
-use Rattle.std.proofs.Common.{◌≡◌, ℕ, false, true, List, [], ◌∷◌, ◌++◌, Option, Some, None, option_map, sym, ap, ◌∙◌, subst, inl}
-use Rattle.std.specs.Prelude.{length}
-use Rattle.std.proofs.lemmas.Bool.{true≢false}
+use Rattle.node_roles.proofs.Words.{◌≡◌, ℕ, false, true, List, [], ◌∷◌, ◌++◌, Option, Some, None, option_map, sym, ap, ◌∙◌, subst, inl, length, true≢false, History, FaultPlan, passed, failed_after, after_course, NotesState, Adds, Fails, Did, KeepsAtAnyMoment, Stop, Closed, NoMemory, DeviceFault, Outcome, NotesAt, with_note, IsNotesAt, FailedAt, Parts, alone, OfLeaves, PartFails, IsNodeAt}
 use Rattle.plasma_base.specs.Causes.{faults_after}
-use Rattle.crash_disk.specs.Disk.{History, FaultPlan}
-use Rattle.crash_disk.specs.Calls.{passed, failed_after, after_course}
 use Rattle.gate_journal.specs.Image.{spelled}
 use Rattle.gate_journal.specs.Steps.{append_steps}
-use Rattle.node_journal.specs.Notes.{NotesState, Adds, Fails, Did, KeepsAtAnyMoment}
-use Rattle.node_journal.specs.declared.stop.Stop.{Stop}
-use Rattle.node_journal.specs.declared.stop.Stop.TheVariants.{Closed, NoMemory, DeviceFault}
-use Rattle.node_answers.specs.Answers.{Outcome}
-use Rattle.node_roles.specs.Notes.{NotesAt, with_note, IsNotesAt, FailedAt}
-use Rattle.node_journal.specs.Parts.{Parts, alone, OfLeaves}
-use Rattle.node_roles.specs.Parts.{PartFails}
-use Rattle.node_roles.specs.Nodes.{IsNodeAt}
 use Rattle.node_roles.proofs.NodeLaws.{Goes}
 
 -- over a disk that tells its history, foretells its faults and counts them

@@ -1,24 +1,13 @@
 -- An operator's refused command adds nothing.
-use Rattle.std.proofs.Common.{◌≡◌, ℕ, nat_lt, true, List, [], ◌∷◌, ◌++◌, length, Option, Some, None, Result, Ok, Err, refl}
-use Rattle.node_journal.specs.Effect.{first_cause}
-use Rattle.node_journal.specs.Role.{are_of}
-use Rattle.plasma_tx.specs.declared.call.RootCall.{RootCall}
+use Rattle.node_roles.proofs.Words.{◌≡◌, ℕ, nat_lt, true, List, [], ◌∷◌, ◌++◌, length, Option, Some, None, Result, Ok, Err, refl, first_cause, are_of, RootCall, signed_in, blocks, coin_at, OfferRefusal, forest_in, offer_causes, offer_at, offer_of, offer_effect, lay_effect, seal_effect, offer_cause, lay_cause, seal_cause, on_pooled, on_laid, on_sealed, operator_does, OperatorLine, operator_outcome}
 use Rattle.plasma_tx.specs.declared.signed_tx.SignedTx.{SignedTx}
 use Rattle.plasma_tx.specs.declared.signed_tx.TxRefusal.{TxRefusal}
 use Rattle.plasma_tx.specs.declared.views.CoinView.{CoinView}
-use Rattle.plasma_tx.specs.Spelling.{signed_in}
-use Rattle.plasma_tx.specs.Views.{blocks, coin_at}
 use Rattle.operator_rules.specs.declared.TheConstants.{MOST_LAID}
-use Rattle.operator_rules.specs.declared.refusal.OfferRefusal.{OfferRefusal}
 use Rattle.operator_rules.specs.Trees.{Forest, is_waiting}
 use Rattle.operator_rules.specs.Walk.{present}
 use Rattle.operator_rules.specs.Records.{Offered, Laid, note_text, operator_kinds, who_is}
-use Rattle.operator_rules.specs.Commands.{forest_in, offer_causes, offer_at, offer_of, offer_effect, lay_effect, seal_effect}
-use Rattle.node_replies.specs.Causes.{offer_cause, lay_cause, seal_cause}
-use Rattle.node_replies.specs.Orders.{on_pooled, on_laid, on_sealed, operator_does}
 use Rattle.node_replies.specs.declared.order.OperatorOrder.{OperatorOrder}
-use Rattle.node_lines.specs.declared.operator_line.OperatorLine.{OperatorLine}
-use Rattle.node_answers.specs.Answers.{operator_outcome}
 use Rattle.node_roles.proofs.Refusals.{AddsNothingRefused, refused-by, unless-quiet, second-quiet}
 
 at-quiet : (dig : List ℕ → List ℕ) (tag : List ℕ) (log : List RootCall) (forest : Forest) (bytes : List ℕ)

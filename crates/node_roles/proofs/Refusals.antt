@@ -1,9 +1,6 @@
 -- A refused command adds nothing, where its effect does so.
-use Rattle.std.proofs.Common.{◌≡◌, ℕ, Bool, true, false, if◌then◌else◌, List, Option, Some, None, Result, Ok, Err, refl}
-use Rattle.node_journal.specs.Effect.{Effect, only, unless}
+use Rattle.node_roles.proofs.Words.{◌≡◌, ℕ, Bool, true, false, if◌then◌else◌, List, Option, Some, None, Result, Ok, Err, refl, Effect, only, unless, Response, answered, said_by, given_text, Outcome}
 use Rattle.node_replies.specs.declared.reply.Reply.{Reply}
-use Rattle.node_replies.specs.Orders.{Response, answered}
-use Rattle.node_answers.specs.Answers.{said_by, given_text, Outcome}
 
 abbrev pub AddsNothingRefused : Outcome → Type 0
 AddsNothingRefused outcome = (cause : List ℕ) → outcome.says ≡ Err cause → (outcome.leaf ≡ None) × (outcome.note ≡ None)

@@ -1,17 +1,8 @@
 -- A wallet that is somewhere, behind a command.
-use Rattle.std.proofs.Common.{◌≡◌, ◌⊎◌, ℕ, false, List, ◌++◌, ◌∷◌, [], Option, Some, None, sym, ap, ◌∙◌, subst, inl, inr}
-use Rattle.crash_disk.specs.Disk.{History, FaultPlan}
-use Rattle.crash_disk.specs.Calls.{WhereTold}
+use Rattle.node_roles.proofs.Words.{◌≡◌, ◌⊎◌, ℕ, false, List, ◌++◌, ◌∷◌, [], Option, Some, None, sym, ap, ◌∙◌, subst, inl, inr, History, FaultPlan, WhereTold, NotesState, Stop, who_is, Outcome, NotesAt, IsNotesAt, StaysAt, Parts, both, IsNodeAt}
 use Rattle.gate_journal.specs.Journal.{IsSettled}
-use Rattle.node_journal.specs.Notes.{NotesState}
-use Rattle.node_journal.specs.declared.stop.Stop.{Stop}
-use Rattle.node_rules.specs.WalletRecords.{who_is}
 use Rattle.wallet_node.specs.State.{WalletState, notes_part, leaves_part}
 use Rattle.node_deeds.specs.WalletOrders.{DidEither}
-use Rattle.node_answers.specs.Answers.{Outcome}
-use Rattle.node_roles.specs.Notes.{NotesAt, IsNotesAt, StaysAt}
-use Rattle.node_journal.specs.Parts.{Parts, both}
-use Rattle.node_roles.specs.Nodes.{IsNodeAt}
 use Rattle.node_roles.specs.Roles.{wallet_parts}
 use Rattle.node_roles.proofs.NodeLaws.{Goes, with-leaves}
 use Rattle.node_roles.proofs.NotesLaws.{adds-at, fails-at, same-at, never-closed, stays}

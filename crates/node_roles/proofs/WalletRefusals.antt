@@ -1,22 +1,15 @@
 -- A wallet's refused command adds nothing, and no command both a note and a leaf's record.
-use Rattle.std.proofs.Common.{◌≡◌, ◌⊎◌, ℕ, Bool, true, false, List, [], ◌∷◌, ◌++◌, Option, None, Result, Ok, Err, refl, sym, subst, inl}
-use Rattle.node_journal.specs.Role.{are_of}
+use Rattle.node_roles.proofs.Words.{◌≡◌, ◌⊎◌, ℕ, Bool, true, false, List, [], ◌∷◌, ◌++◌, Option, None, Result, Ok, Err, refl, sym, subst, inl, are_of, RootCall, is_marked, who_is, wallet_kinds, wallet_cause, on_accepted, on_sent, on_leaving, on_reclaimed, on_migrated, wallet_does, wallet_outcome}
 use Rattle.plasma_tx.specs.declared.owner.Owner.{Owner}
-use Rattle.plasma_tx.specs.declared.call.RootCall.{RootCall}
-use Rattle.leaf_journal.specs.Records.{is_marked}
 use Rattle.wallet_core.specs.declared.coin_state.CoinState.{CoinState}
-use Rattle.wallet_core.specs.declared.coin_state.CoinState.TheVariants.{Nothing, Sending, Leaving, Held}
+use Rattle.wallet_core.specs.declared.coin_state.CoinState.TheVariants.{Held}
 use Rattle.node_rules.specs.declared.refusal.WalletRefusal.{WalletRefusal}
-use Rattle.node_rules.specs.WalletRecords.{who_is, wallet_kinds}
 use Rattle.node_rules.specs.Wallet.{WalletRecords, WalletEffect, answers, coin_state, accept_effect, send_effect, leave_from, leave_effect, reclaim_effect, migrate_effect}
 use Rattle.node_rules.proofs.WalletRole.{leaves_are_answered}
-use Rattle.node_replies.specs.Causes.{wallet_cause}
-use Rattle.node_replies.specs.Orders.{on_accepted, on_sent, on_leaving, on_reclaimed, on_migrated, wallet_does}
 use Rattle.node_replies.proofs.WalletEnds.{AcceptEnds, accept_ends, SendEnds, send_ends, ReclaimEnds, reclaim_ends}
 use Rattle.node_replies.specs.declared.order.WalletOrder.{WalletOrder}
 use Rattle.node_lines.specs.declared.wallet_line.WalletLine.{WalletLine}
 use Rattle.node_deeds.proofs.WalletOrderLaws.{orders_add_one_record}
-use Rattle.node_answers.specs.Answers.{wallet_outcome}
 use Rattle.node_roles.proofs.Refusals.{AddsNothingRefused, refused-by}
 
 -- an effect that is refused adds nothing
@@ -63,10 +56,8 @@ leave-quiet dig wallet log coin why is = by (coin_state dig wallet log coin) ref
   where
     by : (state : CoinState) → coin_state dig wallet log coin ≡ state
         → ((leave_from dig wallet log coin state).leaf ≡ None) × ((leave_from dig wallet log coin state).note ≡ None)
-    by Nothing state = (refl, refl)
-    by (Sending tip q) state = (refl, refl)
-    by (Leaving tip) state = (refl, refl)
     by (Held tip) state = let found = leaves_are_answered dig wallet log coin tip (inl state) in cc (found.2, is)
+    by it state = (refl, refl)
 
 migrate-quiet : (wallet : WalletRecords) → Quiet (migrate_effect wallet)
 unfolding migrate_effect
@@ -109,8 +100,7 @@ pub wallet-adds-one : (dig : List ℕ → List ℕ) (log : List RootCall) (walle
     → ((wallet_outcome dig log wallet line).note ≡ None) ⊎ ((wallet_outcome dig log wallet line).leaf ≡ None)
 unfolding wallet_outcome
 wallet-adds-one dig log wallet (WalletLine.Order order) = orders_add_one_record dig log wallet order
-wallet-adds-one dig log wallet (WalletLine.State coin) = inl refl
-wallet-adds-one dig log wallet WalletLine.Who = inl refl
+wallet-adds-one dig log wallet line = inl refl
 
 -- the tag is that of the first note
 pub wallet-tag : (dig : List ℕ → List ℕ) (notes : List (List ℕ)) → are_of (wallet_kinds dig) notes ≡ true

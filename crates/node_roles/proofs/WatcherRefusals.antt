@@ -1,19 +1,13 @@
 -- A watcher's refused command adds nothing.
-use Rattle.std.proofs.Common.{◌≡◌, ℕ, true, List, [], ◌∷◌, ◌++◌, Some, None, Result, Ok, Err, refl}
+use Rattle.node_roles.proofs.Words.{◌≡◌, ℕ, true, List, [], ◌∷◌, ◌++◌, Some, None, Result, Ok, Err, refl, first_cause, are_of, RootCall, watcher_cause, on_guarded, on_released, watcher_does, watcher_outcome}
 use Rattle.std.specs.List.{list_any}
-use Rattle.node_journal.specs.Effect.{first_cause}
-use Rattle.node_journal.specs.Role.{are_of}
-use Rattle.plasma_tx.specs.declared.call.RootCall.{RootCall}
 use Rattle.plasma_tx.specs.declared.links.Links.{Links}
 use Rattle.coin_history.specs.declared.bundle.Bundle.{Bundle}
 use Rattle.coin_history.specs.declared.refusal.HistoryRefusal.{HistoryRefusal}
 use Rattle.node_rules.specs.declared.refusal.WatcherRefusal.{WatcherRefusal}
 use Rattle.node_rules.specs.Kept.{links_handed}
 use Rattle.node_rules.specs.Watcher.{guard_causes, guard_taken, guard_by, guard_effect, release_effect, guards_in, is_of, who_is, note_text, Released, watcher_kinds}
-use Rattle.node_replies.specs.Causes.{watcher_cause}
-use Rattle.node_replies.specs.Orders.{on_guarded, on_released, watcher_does}
 use Rattle.node_replies.specs.declared.order.WatcherOrder.{WatcherOrder}
-use Rattle.node_answers.specs.Answers.{watcher_outcome}
 use Rattle.node_roles.proofs.Refusals.{AddsNothingRefused, refused-by, unless-quiet, first-quiet}
 
 guard-quiet : (log : List RootCall) (guards : List Bundle) (links : Result Links HistoryRefusal) (why : WatcherRefusal)
