@@ -1,21 +1,9 @@
 -- What is done where entries are added one after another.
-use Rattle.std.proofs.Common.{◌≡◌, ℕ, suc, true, List, [], ◌∷◌, ◌++◌, map, take, Option, Some, None, Result, Ok, Err, refl, sym, ◌∙◌, ap, subst, inl, inr, append_assoc, append-nil}
-use Rattle.std.specs.Option.{option_map}
+use Rattle.hss_runs.proofs.Words.{◌≡◌, ℕ, suc, true, List, [], ◌∷◌, ◌++◌, map, take, Option, Some, None, Result, Ok, Err, refl, sym, ◌∙◌, ap, subst, inl, inr, append_assoc, append-nil, option_map, faults_after, History, content, MayLeave, FaultPlan, LeavesOnly, WhereTold, failed_after, after_course, Keeps, KeepsWithOrWithout, IsSettled, NotesState, note_steps, Added, AddFailed, Did, stopped_by, Entry, entry_text, Status, EndsAs, refuses, said_output, AddsAll, FailsToAdd, DidAll, KeepsAFront, Signs}
 use Rattle.std.specs.Result.{IfErr}
-use Rattle.plasma_base.specs.Causes.{faults_after}
-use Rattle.crash_disk.specs.Disk.{History, content, MayLeave, FaultPlan, LeavesOnly}
-use Rattle.crash_disk.specs.Calls.{WhereTold, failed_after, after_course}
-use Rattle.gate_journal.specs.Journal.{Keeps, KeepsWithOrWithout, IsSettled}
-use Rattle.node_journal.specs.Notes.{NotesState, note_steps, Added, AddFailed, Did, stopped_by}
 use Rattle.node_journal.specs.declared.stop.Stop.{Stop}
 use Rattle.node_journal.specs.declared.stop.Stop.TheVariants.{Closed, NoMemory, DeviceFault}
 use Rattle.gate_journal.proofs.Rest.{leaves_now}
-use Rattle.hss_keys.specs.declared.entry.Entry.{Entry}
-use Rattle.hss_keys.specs.Entries.{entry_text}
-use Rattle.run_endings.specs.declared.status.Status.{Status}
-use Rattle.run_endings.specs.Outputs.{EndsAs}
-use Rattle.hss_runs.specs.Signing.{refuses, said_output}
-use Rattle.hss_runs.specs.Runs.{AddsAll, FailsToAdd, DidAll, KeepsAFront, Signs}
 
 module _ {D : Type 0} (told : D → Option History) (plan : D → Option FaultPlan) (faults : D → ℕ) where
   -- no fault was met, or one

@@ -1,35 +1,22 @@
 -- What a call of a two-level signer does that isn't refused by its definition.
-use Rattle.std.proofs.Common.{◌≡◌, ◌≤◌, ℕ, true, false, cond, List, [], ◌∷◌, ◌++◌, length, codes, Option, Some, None, Result, Ok, Err, refl, sym, ◌∙◌, ap, append_assoc}
-use Rattle.std.specs.Prelude.{◌≢◌}
-use Rattle.std.proofs.lemmas.Bool.{and_parts, leb-true}
+use Rattle.hss_runs.proofs.Words.{◌≡◌, ◌≤◌, ℕ, true, false, cond, List, [], ◌∷◌, ◌++◌, length, codes, Option, Some, None, Result, Ok, Err, refl, sym, ◌∙◌, ap, append_assoc, ◌≢◌, and_parts, leb-true, History, FaultPlan, NotesState, Did, HssSeed, Opens, Binds, bottom_key, entries_of, entry_text, opened_count, advance_effect, bind_effect, bound_of, level_stop, HssBoundState, NextLeaf, entries_added, is_signable, next_leaf, refuses, signed_text, signing, signs}
 use Rattle.hex.specs.Hex.{encode_lower}
 use Rattle.plasma_base.specs.HexText.{hex_text}
-use Rattle.crash_disk.specs.Disk.{History, FaultPlan}
 use Rattle.node_journal.specs.Effect.{Effect}
-use Rattle.node_journal.specs.Notes.{NotesState, Did}
 use Rattle.node_journal.specs.declared.stop.Stop.TheVariants.{DeviceFault as StopFault}
-use Rattle.hss_keys.specs.declared.seed.HssSeed.{HssSeed}
-use Rattle.hss_keys.specs.declared.entry.Entry.TheVariants.{Opens, Binds}
 use Rattle.hss_keys.specs.declared.refusal.LevelRefusal.{LevelRefusal}
 use Rattle.hss_keys.specs.declared.refusal.LevelRefusal.TheVariants.{LevelOpen, LevelSpent, KeySpent, Closed, NoMemory, DeviceFault}
-use Rattle.hss_keys.specs.Keys.{bottom_key}
-use Rattle.hss_keys.specs.Entries.{entries_of, entry_text, opened_count}
-use Rattle.hss_keys.specs.Levels.{advance_effect, bind_effect, bound_of, level_stop, HssBoundState}
 use Rattle.hss_keys.proofs.Effects.{advance-goes, bind-goes}
-use Rattle.hss_runs.specs.declared.next.NextLeaf.{NextLeaf}
-use Rattle.hss_runs.specs.Signing.{entries_added, is_signable, next_leaf, refuses, signed_text, signing, signs}
 use Rattle.hss_runs.specs.Inside.{stop_in}
 use Rattle.hss_runs.proofs.Leaves.{IsOfLast, IsOfNew}
 
 -- its refusal is what stopped it
 pub stop-is : {T : Type 0} (why : LevelRefusal) (answer : Result T LevelRefusal) (value : T) → answer ≡ Ok value
     → (level_stop {T = T} (Err why) ≡ None → Err why ≡ answer) → level_stop {T = T} (Err why) ≡ Some (stop_in why)
-stop-is DeviceFault answer value is says = refl
-stop-is Closed answer value is says = refl
-stop-is NoMemory answer value is says = refl
 stop-is (LevelOpen n) answer value is says = absurd (let wrong = says refl in cc (wrong, is))
 stop-is (LevelSpent n) answer value is says = absurd (let wrong = says refl in cc (wrong, is))
 stop-is (KeySpent n) answer value is says = absurd (let wrong = says refl in cc (wrong, is))
+stop-is why answer value is says = refl
 
 -- and it is a device fault, where the journal is open and no memory is taken
 pub fault-is : {D T : Type 0} (told : D → Option History) (plan : D → Option FaultPlan) (faults : D → ℕ)
@@ -40,11 +27,7 @@ fault-is told plan faults added old new DeviceFault answer value is says is_open
 fault-is told plan faults added old new Closed answer value is says is_open enough did =
     absurd (let was = did.0 in cc (was, is_open))
 fault-is told plan faults added old new NoMemory answer value is says is_open enough did = absurd (enough refl)
-fault-is told plan faults added old new (LevelOpen n) answer value is says is_open enough did =
-    absurd (let wrong = says refl in cc (wrong, is))
-fault-is told plan faults added old new (LevelSpent n) answer value is says is_open enough did =
-    absurd (let wrong = says refl in cc (wrong, is))
-fault-is told plan faults added old new (KeySpent n) answer value is says is_open enough did =
+fault-is told plan faults added old new why answer value is says is_open enough did =
     absurd (let wrong = says refl in cc (wrong, is))
 
 module _ (seed : HssSeed) (records : List (List ℕ)) (next : NextLeaf) where

@@ -1,21 +1,7 @@
 -- A run of a signer over good disks is done, unless something fails.
-use Rattle.std.proofs.Common.{◌≡◌, ℕ, true, List, [], Option, Some, Result, Ok, inl, inr, refl, sym, ap, ◌∙◌, subst}
-use Rattle.crash_disk.specs.Disk.{History, FaultPlan, content}
-use Rattle.gate_journal.specs.declared.refusal.JournalRefusal.{JournalRefusal}
-use Rattle.gate_journal.specs.declared.refusal.JournalRefusal.TheVariants.{AlreadyMade as JournalMade, NotJournal as JournalPlace, DeviceFault as JournalFault, Closed as JournalClosed, RecordTooLong as JournalLong, NoMemory as JournalMemory}
+use Rattle.hss_runs.proofs.Words.{◌≡◌, ℕ, true, List, [], Option, Some, Result, Ok, inl, inr, refl, sym, ap, ◌∙◌, subst, History, FaultPlan, content, JournalRefusal, JournalPlace, NotesState, Opened, RefusesRole, Status, IsDoneUnlessFailed, fault_output, refused_output, entries_of, level_records_in, NextLeaf, signer_kinds, seed_of, is_signable, next_leaf, Signing, signs, signing, said_output, RefusesSigner, Signs, RunsSigner}
 use Rattle.node_journal.specs.Role.{role_in}
-use Rattle.node_journal.specs.Notes.{NotesState, Opened, RefusesRole}
-use Rattle.run_endings.specs.declared.status.Status.{Status}
-use Rattle.run_endings.specs.Statuses.{IsDoneUnlessFailed}
-use Rattle.run_endings.specs.Endings.{fault_output}
 use Rattle.run_endings.proofs.EndingLaws.{ends-done}
-use Rattle.node_runs.specs.Endings.{refused_output}
-use Rattle.hss_keys.specs.Entries.{entries_of}
-use Rattle.hss_keys.specs.Form.{level_records_in}
-use Rattle.hss_runs.specs.declared.next.NextLeaf.{NextLeaf}
-use Rattle.hss_runs.specs.Identity.{signer_kinds, seed_of}
-use Rattle.hss_runs.specs.Signing.{is_signable, next_leaf, Signing, signs, signing, said_output}
-use Rattle.hss_runs.specs.Runs.{RefusesSigner, Signs, RunsSigner}
 use Rattle.hss_runs.specs.Complete.{SigningComplete}
 
 same-ok : (result : Result (List (List ℕ)) ℕ) (x y : List (List ℕ)) → result ≡ Ok x → result ≡ Ok y → x ≡ y
@@ -25,11 +11,7 @@ same-ok result x y first second = cc (first, second)
 refused-may : (why : JournalRefusal) → ((place : ℕ) → why ≡ JournalPlace place → ⊥)
     → IsDoneUnlessFailed (refused_output why).status
 refused-may (JournalPlace place) own = absurd (own place refl)
-refused-may (JournalMade count) own = tt
-refused-may (JournalLong count) own = tt
-refused-may JournalFault own = tt
-refused-may JournalClosed own = tt
-refused-may JournalMemory own = tt
+refused-may why own = tt
 
 -- a message that may be signed is signed by the leaf that is next
 signing-is : (records levels : List (List ℕ)) (message : List ℕ) (next : NextLeaf) → is_signable message ≡ true

@@ -1,22 +1,8 @@
 -- The faults that a signer's disks met, by the status of its run.
-use Rattle.std.proofs.Common.{◌≡◌, ℕ, Bool, true, false, List, [], Option, Result, Ok, Err, refl, sym, ◌∙◌, ap, subst, inl, inr}
-use Rattle.plasma_base.specs.Causes.{faults_after}
-use Rattle.crash_disk.specs.Disk.{History, FaultPlan}
-use Rattle.gate_journal.specs.Journal.{is_device_fault}
-use Rattle.node_journal.specs.Notes.{NotesState}
-use Rattle.gate_journal.specs.declared.refusal.JournalRefusal.{JournalRefusal}
-use Rattle.gate_journal.specs.declared.refusal.JournalRefusal.TheVariants.{AlreadyMade as JournalMade, NotJournal as JournalPlace, DeviceFault as JournalFault, Closed as JournalClosed, RecordTooLong as JournalLong, NoMemory as JournalMemory}
-use Rattle.run_endings.specs.declared.status.Status.{Status}
-use Rattle.run_endings.specs.declared.status.Status.TheVariants.{Done, Refused, Usage, BadLine, ReadFault, WriteFault, DeviceFault, NoMemory, TooLong, NotJournal, AlreadyMade}
-use Rattle.run_endings.specs.Statuses.{FaultsBy}
-use Rattle.run_endings.specs.Outputs.{Output, EndsAs}
-use Rattle.run_endings.specs.Endings.{fault_output}
-use Rattle.node_runs.specs.Endings.{refused_output}
+use Rattle.hss_runs.proofs.Words.{◌≡◌, ℕ, Bool, true, false, List, [], Option, Result, Ok, Err, refl, sym, ◌∙◌, ap, subst, inl, inr, faults_after, History, FaultPlan, is_device_fault, NotesState, JournalRefusal, JournalMade, Status, FaultsBy, Output, EndsAs, fault_output, refused_output, seed_of, Signing, signing, said_output, OpensSigner, RefusesSigner, Signs, RunsSigner}
+use Rattle.run_endings.specs.declared.status.Status.TheVariants.{ReadFault, WriteFault, DeviceFault, NoMemory}
 use Rattle.run_endings.specs.Faults.{CountsEither}
 use Rattle.node_runs.proofs.FaultLaws.{notes-met}
-use Rattle.hss_runs.specs.Identity.{seed_of}
-use Rattle.hss_runs.specs.Signing.{Signing, signing, said_output}
-use Rattle.hss_runs.specs.Runs.{OpensSigner, RefusesSigner, Signs, RunsSigner}
 use Rattle.hss_runs.proofs.Adding.{adds-count, fails-count}
 
 abbrev is_fault : Status → Bool
@@ -29,14 +15,7 @@ met-by : (Met : Bool → Type 0) (output : Output) (status : Status) (before aft
 met-by Met output WriteFault before after failed ends met = (is_fault output.status, met)
 met-by Met output NoMemory before after failed ends met = (is_fault output.status, met)
 met-by Met output ReadFault before after failed ends met = subst Met (ap is_fault ends.0.0) met
-met-by Met output DeviceFault before after failed ends met = subst Met (ap is_fault ends.0) met
-met-by Met output Done before after failed ends met = subst Met (ap is_fault ends.0) met
-met-by Met output Refused before after failed ends met = subst Met (ap is_fault ends.0) met
-met-by Met output Usage before after failed ends met = subst Met (ap is_fault ends.0) met
-met-by Met output BadLine before after failed ends met = subst Met (ap is_fault ends.0) met
-met-by Met output TooLong before after failed ends met = subst Met (ap is_fault ends.0) met
-met-by Met output NotJournal before after failed ends met = subst Met (ap is_fault ends.0) met
-met-by Met output AlreadyMade before after failed ends met = subst Met (ap is_fault ends.0) met
+met-by Met output status before after failed ends met = subst Met (ap is_fault ends.0) met
 
 said-none : (says : Result (List ℕ) (List ℕ)) → is_fault (said_output says).status ≡ false
 said-none (Ok text) = refl
@@ -44,11 +23,7 @@ said-none (Err cause) = refl
 
 refused-fault : (why : JournalRefusal) → is_fault (refused_output why).status ≡ is_device_fault why
 refused-fault (JournalMade count) = refl
-refused-fault (JournalPlace place) = refl
-refused-fault JournalFault = refl
-refused-fault JournalClosed = refl
-refused-fault (JournalLong count) = refl
-refused-fault JournalMemory = refl
+refused-fault why = refl
 
 module _ {D : Type 0} (told : D → Option History) (plan : D → Option FaultPlan) (faults : D → ℕ)
     (taken after : Option (List ℕ)) (status : Status) (notes leaves new_notes new_leaves : D) where

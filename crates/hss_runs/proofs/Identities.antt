@@ -1,7 +1,5 @@
 -- The seed of a signer's records.
-use Rattle.std.proofs.Common.{◌≡◌, ℕ, List, [], ◌∷◌, Option, Some, ◌∙◌, ap}
-use Rattle.std.specs.Prelude.{slice_get, unwrap_or}
-use Rattle.hss_runs.specs.Identity.{seed_in, seed_of, signer_seed}
+use Rattle.hss_runs.proofs.Words.{◌≡◌, ℕ, List, [], ◌∷◌, Option, Some, ◌∙◌, ap, slice_get, unwrap_or, seed_in, seed_of, signer_seed}
 
 -- that of the first one, where it spells an identity
 pub seed-is : (records : List (List ℕ)) (first seed : List ℕ) → Some first ≡ slice_get records 0

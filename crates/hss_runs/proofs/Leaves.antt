@@ -1,20 +1,9 @@
 -- Which leaf is next, case by case, and after a bottom key was opened.
-use Rattle.std.proofs.Common.{◌≡◌, ◌⊎◌, ◌<◌, ◌-◌, ◌+◌, ℕ, Bool, true, false, cond, List, [], ◌∷◌, ◌++◌, Some, None, Ok, refl, ◌∙◌, ap, inl, inr, arith}
-use Rattle.std.specs.Prelude.{nat_lt}
-use Rattle.std.proofs.lemmas.Bool.{and_parts, cases_Bool, lt-ltb, ltb-true}
+use Rattle.hss_runs.proofs.Words.{◌≡◌, ◌⊎◌, ◌<◌, ◌-◌, ◌+◌, ℕ, Bool, true, false, cond, List, [], ◌∷◌, ◌++◌, Some, None, Ok, refl, ◌∙◌, ap, inl, inr, arith, nat_lt, and_parts, cases_Bool, lt-ltb, ltb-true, HssSeed, Entry, Opens, Binds, bottom_key, entries_of, opened_count, used_in, entry_may_follow, level_records, may_follow, has_leaf, NextLeaf, next_leaf}
 use Rattle.std.proofs.lemmas.Nat.{pow_pos}
 use Rattle.lms_sign.specs.Types.{height, leaf_count}
-use Rattle.hss_keys.specs.declared.seed.HssSeed.{HssSeed}
-use Rattle.hss_keys.specs.declared.entry.Entry.{Entry}
-use Rattle.hss_keys.specs.declared.entry.Entry.TheVariants.{Opens, Binds}
-use Rattle.hss_keys.specs.Keys.{bottom_key}
-use Rattle.hss_keys.specs.Entries.{entries_of, opened_count, used_in}
-use Rattle.hss_keys.specs.Form.{entry_may_follow, level_records, may_follow}
-use Rattle.hss_keys.specs.Levels.{has_leaf}
 use Rattle.hss_keys.proofs.Counts.{entries-more, follows_as, has-next, next_key, next_leaf as bound-next, opened-more, used-none}
 use Rattle.hss_keys.proofs.Form.{are_counted, behind-append, step_out}
-use Rattle.hss_runs.specs.declared.next.NextLeaf.{NextLeaf}
-use Rattle.hss_runs.specs.Signing.{next_leaf}
 
 -- the next leaf is one of the last bottom key, which has one left
 pub record IsOfLast (seed : HssSeed) (entries : List Entry) (next : NextLeaf) : Type 0 where

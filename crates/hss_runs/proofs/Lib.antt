@@ -5,3 +5,4 @@ mod Adding
 mod Calls
 pub mod FaultLaws
 pub mod CompleteLaws
+mod Words

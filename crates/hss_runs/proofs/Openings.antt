@@ -1,12 +1,7 @@
 -- What an opening did that was stopped between the two disks.
-use Rattle.std.proofs.Common.{◌≡◌, ℕ, List, [], Option, Some, None, Result, refl, arith}
-use Rattle.std.specs.Option.{option_map}
-use Rattle.crash_disk.specs.Disk.{History, content, FaultPlan}
-use Rattle.crash_disk.specs.Calls.{stopped_after, after_course, Made}
+use Rattle.hss_runs.proofs.Words.{◌≡◌, ℕ, List, [], Option, Some, None, Result, refl, arith, option_map, History, content, FaultPlan, stopped_after, after_course, Made, RefusesRole, NoMemory}
 use Rattle.crash_disk.proofs.Calls.{made_stop}
 use Rattle.gate_journal.specs.Steps.{open_steps}
-use Rattle.node_journal.specs.Notes.{RefusesRole}
-use Rattle.gate_journal.specs.declared.refusal.JournalRefusal.TheVariants.{NoMemory}
 
 module _ {D : Type 0} (told : D → Option History) (plan : D → Option FaultPlan) (faults : D → ℕ) (disk : D) where
   -- an opening that made no device call
