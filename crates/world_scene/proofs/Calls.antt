@@ -1,20 +1,9 @@
 -- What a call that was entered shows, and its event.
-use Rattle.std.proofs.Common.{◌≡◌, refl, sym, ap, ◌∙◌, subst, false, if◌then◌else◌, List, [], ◌∷◌, ◌++◌, reverse, ℕ, Option, Some, None}
-use Rattle.std.proofs.lemmas.List.{reverse-append}
-use Rattle.plasma_tx.specs.declared.call.RootCall.{RootCall}
+use Rattle.world_scene.proofs.Words.{◌≡◌, refl, sym, ap, ◌∙◌, subst, false, if◌then◌else◌, List, [], ◌∷◌, ◌++◌, reverse, ℕ, Option, Some, None, reverse-append, RootCall, Chain, with_log, tests_by, rules_of, World, Joins, Bounces, Reply, called, reply_to, IsEvent, event_of_call, SceneState, Shown, world_of, shown_of, TellsEffect}
 use Rattle.plasma_tx.specs.declared.answer.Answer.{Answer}
-use Rattle.plasma_tx.specs.Chain.{Chain, with_log}
-use Rattle.plasma_tx.specs.Shown.{tests_by, rules_of}
 use Rattle.plasma_tx.specs.Table.{answer_to, log_after, is_accepted}
 use Rattle.coin_verdicts.specs.declared.fact.Fact.{Fact}
 use Rattle.world_trace.specs.Asked.{IsTold}
-use Rattle.world_rules.specs.World.{World}
-use Rattle.world_rules.specs.Events.{Joins, Bounces}
-use Rattle.node_replies.specs.declared.reply.Reply.{Reply}
-use Rattle.world_rules.specs.Steps.{called, reply_to}
-use Rattle.world_trace.specs.Events.{IsEvent, event_of_call}
-use Rattle.world_scene.specs.Scenes.{SceneState, Shown, world_of, shown_of}
-use Rattle.world_scene.specs.Events.{TellsEffect}
 
 -- it is told by what its answer says of it
 pub call_tells : (dig : List ℕ → List ℕ) (world : World) (call : RootCall) (answer : Answer) (told : Option Fact)

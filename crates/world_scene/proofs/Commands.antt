@@ -1,41 +1,7 @@
 -- A command of a node does what its order does, and what that shows.
-use Rattle.std.proofs.Common.{◌≡◌, refl, sym, ap, ◌∙◌, subst, ℕ, zero, suc, Bool, true, false, not, ◌&&◌, if◌then◌else◌, List, [], ◌∷◌, map, set, slice_get, Option, Some, None, arith}
-use Rattle.std.specs.Prelude.{option_map, option_and_then, is_some, MatchBool}
-use Rattle.std.proofs.lemmas.List.{map-set}
-use Rattle.std.specs.Str.{bytes_eq}
-use Rattle.std.proofs.lemmas.Bool.{and_parts}
-use Rattle.std.proofs.lemmas.Option.{slice_get-map, get_or_from_slice_get, same_Some, slice_get_within}
-use Rattle.world_rules.proofs.Existence.{position-is}
-use Rattle.line_forms.specs.declared.tokens.OutcomeToken.{OutcomeToken}
-use Rattle.crash_disk.specs.declared.outcome.Outcome.{Outcome}
-use Rattle.schedule_text.specs.declared.line.Line.{Line}
-use Rattle.schedule_text.specs.declared.command.Command.{Command}
-use Rattle.schedule_text.specs.Grammar.{node_of}
-use Rattle.world_rules.specs.World.{Role, Wallet, Watcher, Operator, Node, World, is_wallet_role, is_watcher_role, is_operator_role, does_watch, new_owner_of, with_node, number_of, any_role, is_named}
+use Rattle.world_scene.proofs.Words.{◌≡◌, refl, sym, ap, ◌∙◌, subst, ℕ, zero, suc, Bool, true, false, not, ◌&&◌, if◌then◌else◌, List, [], ◌∷◌, map, set, slice_get, Option, Some, None, arith, option_map, option_and_then, is_some, MatchBool, map-set, bytes_eq, and_parts, slice_get-map, get_or_from_slice_get, same_Some, slice_get_within, position-is, OutcomeToken, Outcome, Line, Command, node_of, Role, Wallet, Watcher, Operator, Node, World, is_wallet_role, is_watcher_role, is_operator_role, does_watch, new_owner_of, with_node, number_of, any_role, is_named, Owner, RootCall, plays, is_sendable, has_declared_names, may_command, Reply, as_deed, deed_of, LineEffect, effect_in, act_at, act_on, command_effect, commanded, down, is_opening, is_down, crashed, entered, offer_numbered, Given, WalletOrder, wallet_order, watcher_order, operator_order, node_does, Doing, NodeOrder, fits, is_opening_order, NodeView, answers_down, after_order, Runs, IsDown, IsDone, SceneState, Shown, world_of, node_in, shown_of, shows, OrderAt, order_of, watch_order, shown_by, with_nodes, AllHash, RunsAt, CrashesAt, FitsAt, OfferAt, Chain, tests_by, rules_of, LineEvent, TellsGiven, TellsEffect, Tells}
 use Rattle.plasma_tx.proofs.Names.{some_same}
-use Rattle.plasma_tx.specs.declared.owner.Owner.{Owner}
-use Rattle.plasma_tx.specs.declared.call.RootCall.{RootCall}
 use Rattle.schedule_text.specs.declared.command.WalletCommand.{WalletCommand}
-use Rattle.world_rules.specs.Declarations.{plays, is_sendable, has_declared_names, may_command}
-use Rattle.node_replies.specs.declared.reply.Reply.{Reply}
-use Rattle.world_rules.specs.Deeds.{as_deed, deed_of}
-use Rattle.world_rules.specs.Steps.{LineEffect, effect_in, act_at, act_on, command_effect, commanded, down, is_opening, answers_down as is_down, crashed, entered, offer_numbered}
-use Rattle.node_replies.specs.declared.given.Given.{Given}
-use Rattle.node_replies.specs.declared.order.WalletOrder.{WalletOrder}
-use Rattle.world_rules.specs.Orders.{wallet_order, watcher_order, operator_order, node_does}
-use Rattle.node_replies.specs.Orders.{Doing}
-use Rattle.node_replies.specs.declared.order.NodeOrder.{NodeOrder}
-use Rattle.world_nodes.specs.Orders.{fits, is_opening_order}
-use Rattle.world_nodes.specs.Nodes.{NodeView, answers_down, after_order, Runs, IsDown, IsDone}
-use Rattle.world_scene.specs.Scenes.{SceneState, Shown, world_of, node_in, shown_of, shows}
-use Rattle.world_scene.specs.Orders.{OrderAt}
-use Rattle.world_rules.specs.Orders.{order_of, watch_order}
-use Rattle.world_scene.specs.Steps.{shown_by, with_nodes, AllHash, RunsAt, CrashesAt, FitsAt, OfferAt}
-use Rattle.plasma_tx.specs.Chain.{Chain}
-use Rattle.plasma_tx.specs.Shown.{tests_by, rules_of}
-use Rattle.world_trace.specs.declared.event.LineEvent.{LineEvent}
-use Rattle.world_trace.specs.Orders.{TellsGiven}
-use Rattle.world_scene.specs.Events.{TellsEffect, Tells}
 
 -- what is asked of an order that may not be there
 abbrev fits_by : Role → Option NodeOrder → Bool
@@ -63,26 +29,22 @@ wallet_fits Watcher found order may is = absurd (grind (arith, may))
 wallet_fits Operator found order may is = absurd (grind (arith, may))
 
 watch_fits : (role : Role) (order : NodeOrder) → watch_order role ≡ Some order → fits role order ≡ true
-watch_fits Wallet order is = subst (λ o. fits_by Wallet o ≡ true) is refl
-watch_fits Watcher order is = subst (λ o. fits_by Watcher o ≡ true) is refl
 watch_fits Operator order is = absurd (grind (arith, is))
+watch_fits role order is = subst (λ o. fits_by role o ≡ true) is refl
 
 watcher_fits : (role : Role) (found : NodeOrder) (order : NodeOrder) → fits Watcher found ≡ true
     → is_watcher_role role ≡ true → Some found ≡ Some order → fits role order ≡ true
 watcher_fits Watcher found order fit may is = subst (λ o. fits_by Watcher o ≡ true) is fit
-watcher_fits Wallet found order fit may is = absurd (grind (arith, may))
-watcher_fits Operator found order fit may is = absurd (grind (arith, may))
+watcher_fits role found order fit may is = absurd (grind (arith, may))
 
 operator_fits : (role : Role) (found : NodeOrder) (order : NodeOrder) → fits Operator found ≡ true
     → is_operator_role role ≡ true → Some found ≡ Some order → fits role order ≡ true
 operator_fits Operator found order fit may is = subst (λ o. fits_by Operator o ≡ true) is fit
-operator_fits Wallet found order fit may is = absurd (grind (arith, may))
-operator_fits Watcher found order fit may is = absurd (grind (arith, may))
+operator_fits role found order fit may is = absurd (grind (arith, may))
 
 open_fits : (role : Role) (order : NodeOrder) → Some NodeOrder.Open ≡ Some order → fits role order ≡ true
 open_fits Wallet order is = subst (λ o. fits_by Wallet o ≡ true) is refl
-open_fits Watcher order is = subst (λ o. fits_by Watcher o ≡ true) is refl
-open_fits Operator order is = subst (λ o. fits_by Operator o ≡ true) is refl
+open_fits role order is = subst (λ o. fits_by role o ≡ true) is refl
 
 pub order_fits : (world : World) (role : Role) (command : Command) (order : NodeOrder)
     → plays command role ≡ true → order_of world role command ≡ Some order → fits role order ≡ true
@@ -103,20 +65,18 @@ wallet_opens None order is = absurd (grind (arith, is))
 wallet_opens (Some found) order is = subst (λ o. opens_by o ≡ false) is refl
 
 watch_opens : (role : Role) (order : NodeOrder) → watch_order role ≡ Some order → is_opening_order order ≡ false
-watch_opens Wallet order is = subst (λ o. opens_by o ≡ false) is refl
-watch_opens Watcher order is = subst (λ o. opens_by o ≡ false) is refl
 watch_opens Operator order is = absurd (grind (arith, is))
+watch_opens role order is = subst (λ o. opens_by o ≡ false) is refl
 
 pub order_opens : (world : World) (role : Role) (command : Command) (order : NodeOrder)
     → order_of world role command ≡ Some order → is_opening command ≡ is_opening_order order
 unfolding order_of
 order_opens world role (Command.Wallet name command) order is =
     sym (wallet_opens (wallet_order world command) order is)
-order_opens world role (Command.Watcher name command) order is =
-    sym (subst (λ o. opens_by o ≡ false) is refl)
-order_opens world role (Command.Operator command) order is = sym (subst (λ o. opens_by o ≡ false) is refl)
 order_opens world role (Command.Watch name) order is = sym (watch_opens role order is)
 order_opens world role (Command.Open name) order is = sym (subst (λ o. opens_by o ≡ true) is refl)
+order_opens world role it order is =
+    sym (subst (λ o. opens_by o ≡ false) is refl)
 
 -- ---- the world
 
@@ -307,11 +267,7 @@ wallet_names world (WalletCommand.Send coin to last) order is = by (new_owner_of
         → is_some owner ≡ true
     by None is = absurd (grind (arith, is))
     by (Some owner) is = refl
-wallet_names world (WalletCommand.Accept bundle) order is = refl
-wallet_names world (WalletCommand.Again coin) order is = refl
-wallet_names world (WalletCommand.Leave coin) order is = refl
-wallet_names world (WalletCommand.Reclaim bundle) order is = refl
-wallet_names world WalletCommand.Migrate order is = refl
+wallet_names world command order is = refl
 
 wallet_names_none : (world : World) (command : WalletCommand)
     → option_map NodeOrder.Wallet (wallet_order world command) ≡ None → is_sendable world command ≡ false
@@ -322,34 +278,24 @@ wallet_names_none world (WalletCommand.Send coin to last) is = by (new_owner_of 
         → is_some owner ≡ false
     by None is = refl
     by (Some owner) is = absurd (grind (arith, is))
-wallet_names_none world (WalletCommand.Accept bundle) is = absurd (grind (arith, is))
-wallet_names_none world (WalletCommand.Again coin) is = absurd (grind (arith, is))
-wallet_names_none world (WalletCommand.Leave coin) is = absurd (grind (arith, is))
-wallet_names_none world (WalletCommand.Reclaim bundle) is = absurd (grind (arith, is))
-wallet_names_none world WalletCommand.Migrate is = absurd (grind (arith, is))
+wallet_names_none world command is = absurd (grind (arith, is))
 
 pub order_names : (world : World) (role : Role) (command : Command) (order : NodeOrder)
     → order_of world role command ≡ Some order → has_declared_names world command ≡ true
 unfolding order_of
 order_names world role (Command.Wallet name command) order is = wallet_names world command order is
-order_names world role (Command.Watcher name command) order is = refl
-order_names world role (Command.Operator command) order is = refl
-order_names world role (Command.Watch name) order is = refl
-order_names world role (Command.Open name) order is = refl
+order_names world role it order is = refl
 
 watches_always : (role : Role) → does_watch role ≡ true → watch_order role ≡ None → true ≡ false
-watches_always Wallet may is = absurd (grind (arith, is))
-watches_always Watcher may is = absurd (grind (arith, is))
 watches_always Operator may is = absurd (grind (arith, may))
+watches_always role may is = absurd (grind (arith, is))
 
 pub no_order_names : (world : World) (role : Role) (command : Command) → plays command role ≡ true
     → order_of world role command ≡ None → has_declared_names world command ≡ false
 unfolding order_of
 no_order_names world role (Command.Wallet name command) may is = wallet_names_none world command is
-no_order_names world role (Command.Watcher name command) may is = absurd (grind (arith, is))
-no_order_names world role (Command.Operator command) may is = absurd (grind (arith, is))
 no_order_names world role (Command.Watch name) may is = watches_always role may is
-no_order_names world role (Command.Open name) may is = absurd (grind (arith, is))
+no_order_names world role it may is = absurd (grind (arith, is))
 
 -- ---- which commands keep the rules
 

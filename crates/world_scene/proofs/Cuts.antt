@@ -1,41 +1,8 @@
 -- A cut of a node's command is that of its order, and what it shows.
-use Rattle.std.proofs.Common.{◌≡◌, refl, sym, ap, ◌∙◌, subst, ℕ, Bool, true, false, not, ◌&&◌, nat_lt, if◌then◌else◌, List, [], set, slice_get, Option, Some, arith}
-use Rattle.std.specs.Prelude.{option_map}
-use Rattle.std.specs.Str.{bytes_eq}
-use Rattle.std.proofs.lemmas.Slice.Eq.{bytes_eq-Decides}
-use Rattle.std.proofs.lemmas.Option.{slice_get-map}
-use Rattle.crash_disk.specs.declared.outcome.Outcome.{Outcome}
+use Rattle.world_scene.proofs.Words.{◌≡◌, refl, sym, ap, ◌∙◌, subst, ℕ, Bool, true, false, not, ◌&&◌, nat_lt, if◌then◌else◌, List, [], set, slice_get, Option, Some, arith, option_map, bytes_eq, bytes_eq-Decides, slice_get-map, Outcome, OutcomeToken, Line, Command, node_of, Reply, Role, Wallet, Node, World, is_wallet_role, with_node, number_of, plays, Deed, as_deed, deed_of, adds_record, Event, Other, says, without_offers, effect_in, cut_effect, cut, stopped, finished, down, is_opening, is_cut_short, outcome_of, with_records, after_crash, is_down, Given, Doing, NodeOrder, CutEnd, WalletOrder, fits, is_opening_order, node_does, NodeView, answers_down, is_stopped, Ends, IsStopped, IsFinished, Chain, tests_by, rules_of, LineEvent, IsEvent, HasRecords, event_stopped, Tells, TellsInRuns, HasWallets, EndTells, SceneState, Shown, node_in, world_of, shown_of, shows, OrderAt, shown_by, shown_at_end, with_nodes, AllHash, CutsAt}
 use Rattle.gate_journal.specs.Laws.{is_added}
-use Rattle.line_forms.specs.declared.tokens.OutcomeToken.{OutcomeToken}
-use Rattle.schedule_text.specs.declared.line.Line.{Line}
-use Rattle.schedule_text.specs.declared.command.Command.{Command}
-use Rattle.schedule_text.specs.Grammar.{node_of}
-use Rattle.node_replies.specs.declared.reply.Reply.{Reply}
-use Rattle.world_rules.specs.World.{Role, Wallet, Watcher, Operator, Node, World, is_wallet_role, with_node, number_of}
-use Rattle.world_rules.specs.Declarations.{plays}
-use Rattle.world_rules.specs.Deeds.{Deed, as_deed, deed_of, adds_record}
-use Rattle.world_rules.specs.Events.{Event, Other}
-use Rattle.world_rules.specs.Steps.{says, without_offers, effect_in, cut_effect, cut, stopped, finished, down, is_opening, is_stopped as is_cut_short, outcome_of, with_records, after_crash, answers_down as is_down}
-use Rattle.node_replies.specs.declared.given.Given.{Given}
 use Rattle.node_replies.specs.Given.{IsGiven}
-use Rattle.node_replies.specs.Orders.{Doing}
-use Rattle.node_replies.specs.declared.order.NodeOrder.{NodeOrder}
-use Rattle.world_nodes.specs.declared.order.CutEnd.{CutEnd}
 use Rattle.world_nodes.specs.declared.order.CutEnd.TheVariants.{Down, Stopped, Done}
-use Rattle.node_replies.specs.declared.order.WalletOrder.{WalletOrder}
-use Rattle.world_nodes.specs.Orders.{fits, is_opening_order}
-use Rattle.world_rules.specs.Orders.{node_does}
-use Rattle.world_nodes.specs.Nodes.{NodeView, answers_down}
-use Rattle.world_nodes.specs.Cuts.{is_stopped, Ends, IsStopped, IsFinished}
-use Rattle.plasma_tx.specs.Chain.{Chain}
-use Rattle.plasma_tx.specs.Shown.{tests_by, rules_of}
-use Rattle.world_trace.specs.declared.event.LineEvent.{LineEvent}
-use Rattle.world_trace.specs.Events.{IsEvent}
-use Rattle.world_trace.specs.Orders.{HasRecords, event_stopped}
-use Rattle.world_scene.specs.Events.{Tells, TellsInRuns, HasWallets, EndTells}
-use Rattle.world_scene.specs.Scenes.{SceneState, Shown, node_in, world_of, shown_of, shows}
-use Rattle.world_scene.specs.Orders.{OrderAt}
-use Rattle.world_scene.specs.Steps.{shown_by, shown_at_end, with_nodes, AllHash, CutsAt}
 use Rattle.world_scene.proofs.Commands.{order_opens, order_fits_at, acts_at, world_with_view, set_back, all_at, tells_some}
 
 same_bytes : (xs ys : List ℕ) → bytes_eq xs ys ≡ true → xs ≡ ys
@@ -69,8 +36,7 @@ event_of_one false one other x y = refl
 wallets_order : (role : Role) (order : WalletOrder) → fits role (NodeOrder.Wallet order) ≡ true
     → is_wallet_role role ≡ true
 wallets_order Wallet order is = refl
-wallets_order Watcher order is = absurd (grind (arith, is))
-wallets_order Operator order is = absurd (grind (arith, is))
+wallets_order role order is = absurd (grind (arith, is))
 
 has_records : {H : Type 0} (dig : List ℕ → List ℕ) (scene : SceneState H) (n : ℕ) (view : NodeView H)
     (order : NodeOrder) → HasWallets dig (world_of scene) → slice_get scene.nodes n ≡ Some view
@@ -78,9 +44,7 @@ has_records : {H : Type 0} (dig : List ℕ → List ℕ) (scene : SceneState H) 
 has_records dig scene n view (NodeOrder.Wallet order) wallets at fit =
     wallets n view.node (slice_get-map node_in scene.nodes n ∙ ap (option_map node_in) at)
     (wallets_order view.node.role order fit)
-has_records dig scene n view (NodeOrder.Watcher order) wallets at fit = tt
-has_records dig scene n view (NodeOrder.Operator order) wallets at fit = tt
-has_records dig scene n view NodeOrder.Open wallets at fit = tt
+has_records dig scene n view it wallets at fit = tt
 
 module _ {H : Type 0} (digest : H → List ℕ → List ℕ) (scene : SceneState H) (command : Command) (calls n : ℕ)
     (token : OutcomeToken) (order : NodeOrder) (end : CutEnd) (nodes : List (NodeView H))

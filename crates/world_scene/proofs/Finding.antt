@@ -1,21 +1,11 @@
 -- Things are found by their names.
-use Rattle.std.proofs.Common.{◌≡◌, refl, sym, ap, subst, ◌∙◌, zero, suc, ℕ, Bool, true, false, if◌then◌else◌, inl, inr, ⊎_elim, List, [], ◌∷◌, ◌++◌, length, find, get_or, nat_lt, Option, Some, None}
-use Rattle.std.specs.Prelude.{◌⊎◌, Vec, slice_get, is_some}
-use Rattle.std.specs.List.{position}
-use Rattle.std.specs.Str.{bytes_eq}
+use Rattle.world_scene.proofs.Words.{◌≡◌, refl, sym, ap, subst, ◌∙◌, zero, suc, ℕ, Bool, true, false, if◌then◌else◌, inl, inr, ⊎_elim, List, [], ◌∷◌, ◌++◌, length, find, get_or, nat_lt, Option, Some, None, ◌⊎◌, Vec, slice_get, is_some, position, bytes_eq, false≢true, ltb-true, ltb-false, bytes_eq-Decides, none-some, same_Some, slice_get_within, slice_get_past, slice_get_read, get_or_from_slice_get, list_any-from_Any, position-is, Places, key_cmp, place_in, PutsPlace, FindsEach}
 use Rattle.std.specs.Ordering.{is_eq, nat_cmp}
 use Rattle.std.specs.Cmp.{eq_by_cmp_equiv}
 use Rattle.std.specs.Cmp.Lexicographic.{slice_cmp, nat_list_cmp_total, nat_list_eq_equiv}
 use Rattle.std.specs.Map.{KeepsOthers, IsKeyTest, AreApart, lookup}
 use Rattle.std.specs.BTreeMap.{BTreeMap, UpdatesBy, get_by}
-use Rattle.std.proofs.lemmas.Bool.{false≢true, ltb-true, ltb-false}
 use Rattle.std.proofs.lemmas.Map.Text.{is_eq-slice_cmp}
-use Rattle.std.proofs.lemmas.Slice.Eq.{bytes_eq-Decides}
-use Rattle.std.proofs.lemmas.Option.{none-some, same_Some, slice_get_within, slice_get_past, slice_get_read, get_or_from_slice_get}
-use Rattle.std.proofs.lemmas.List.Folds.{list_any-from_Any}
-use Rattle.world_rules.proofs.Existence.{position-is}
-use Rattle.world_scene.specs.declared.places.Places.{Places}
-use Rattle.world_scene.specs.Places.{key_cmp, place_in, PutsPlace, FindsEach}
 use Rattle.world_scene.proofs.Scans.{any_at, found_where_placed}
 
 -- ---- a name is put

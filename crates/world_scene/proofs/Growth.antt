@@ -1,25 +1,9 @@
 -- A world with one more node.
-use Rattle.std.proofs.Common.{◌≡◌, refl, sym, subst, ap, ◌∙◌, ℕ, nat_lt, Bool, true, false, not, ◌&&◌, ◌||◌, length, take, List, [], ◌∷◌, ◌++◌, map, Option, Some, None}
-use Rattle.std.specs.Prelude.{is_some}
-use Rattle.std.specs.List.{All, position}
-use Rattle.std.proofs.lemmas.List.{map-append}
-use Rattle.std.proofs.Math.Seq.{take-append_seam}
+use Rattle.world_scene.proofs.Words.{◌≡◌, refl, sym, subst, ap, ◌∙◌, ℕ, nat_lt, Bool, true, false, not, ◌&&◌, ◌||◌, length, take, List, [], ◌∷◌, ◌++◌, map, Option, Some, None, is_some, All, position, map-append, take-append_seam, owner_of, Chain, LineEvent, Reply, World, Node, Rogue, any_role, rogue_named, may_be_wallet, may_be_other, is_used, is_declared, is_wallet_account, is_new_name, wallet_nodes, is_declared_account, is_caller, is_wallet_key, is_wallet_seed, with_new_node, declares_watcher, operator_node, new_world, NodeView, Spells, new_watcher, SceneState, world_of, node_in, shown_of, Roles, is_named_view, may_begin, NodesStay, NodesGrow, AllSpell, answered}
 use Rattle.node_rules.specs.declared.identity.WalletIdentity.{WalletIdentity}
-use Rattle.node_rules.specs.WalletRecords.{owner_of}
 use Rattle.world_rules.specs.declared.TheConstants.{MOST_WALLETS}
-use Rattle.plasma_tx.specs.Chain.{Chain}
-use Rattle.world_trace.specs.declared.event.LineEvent.{LineEvent}
-use Rattle.node_replies.specs.declared.reply.Reply.{Reply}
-use Rattle.world_rules.specs.World.{World, Node, Rogue, any_role, rogue_named}
-use Rattle.world_rules.specs.Declarations.{may_be_wallet, may_be_other, is_used, is_declared, is_wallet_account, is_new_name, wallet_nodes, is_declared_account, is_caller, is_wallet_key, is_wallet_seed}
-use Rattle.world_rules.specs.Steps.{with_new_node, declares_watcher, operator_node, new_world}
-use Rattle.world_nodes.specs.Nodes.{NodeView, Spells, new_watcher}
 use Rattle.world_scene.specs.declared.answer.LineAnswer.{LineAnswer}
-use Rattle.world_scene.specs.Scenes.{SceneState, world_of, node_in, shown_of}
-use Rattle.world_scene.specs.declared.names.Roles.{Roles}
-use Rattle.world_scene.specs.Names.{is_named_view}
 use Rattle.world_scene.proofs.Views.{number_of_view}
-use Rattle.world_scene.specs.Steps.{may_begin, NodesStay, NodesGrow, AllSpell, answered}
 
 not_all : (a b k s : Bool) → (a && b && not s) ≡ false → (a && b && not (k || s)) ≡ false
 not_all false b k s no_one = refl

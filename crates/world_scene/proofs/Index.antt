@@ -1,22 +1,6 @@
 -- What is kept of nodes stays true of them.
-use Rattle.std.proofs.Common.{◌≡◌, refl, sym, ap, subst, ◌∙◌, ℕ, Bool, true, false, ◌&&◌, List, [], ◌∷◌, ◌++◌, map, filter, length, Some, None}
-use Rattle.std.specs.Prelude.{option_map, slice_get, slice_set, slice_index_or}
-use Rattle.std.specs.List.{position, list_any}
-use Rattle.std.specs.Str.{bytes_eq}
-use Rattle.std.proofs.Math.Seq.{map-set_same}
-use Rattle.std.proofs.lemmas.Bool.{and_parts}
-use Rattle.std.proofs.lemmas.List.{map-append, length-map}
-use Rattle.std.proofs.lemmas.List.Elements.{filter-append}
-use Rattle.std.proofs.lemmas.Option.{none-some, slice_get-map}
-use Rattle.std.proofs.lemmas.Slice.Eq.{bytes_eq-Decides}
-use Rattle.world_rules.specs.Declarations.{is_wallet_account, wallet_nodes}
-use Rattle.world_scene.specs.declared.names.Roles.{Roles}
-use Rattle.world_scene.specs.declared.places.Places.{Places}
-use Rattle.world_scene.specs.Names.{passes, is_named_view, is_same_account}
-use Rattle.world_scene.specs.Places.{place_in, PutsPlace, FindsEach}
-use Rattle.world_nodes.specs.Nodes.{NodeView, Declared, declared_as}
+use Rattle.world_scene.proofs.Words.{◌≡◌, refl, sym, ap, subst, ◌∙◌, ℕ, Bool, true, false, ◌&&◌, List, [], ◌∷◌, ◌++◌, map, filter, length, Some, None, option_map, slice_get, slice_set, slice_index_or, position, list_any, bytes_eq, map-set_same, and_parts, map-append, length-map, filter-append, none-some, slice_get-map, bytes_eq-Decides, is_wallet_account, wallet_nodes, Roles, Places, passes, is_named_view, is_same_account, place_in, PutsPlace, FindsEach, NodeView, Declared, declared_as, SceneState, world_of}
 use Rattle.world_scene.specs.Indexed.{all_declared, is_wallet_there, wallet_accounts, IsIndexed}
-use Rattle.world_scene.specs.Scenes.{SceneState, world_of}
 use Rattle.world_scene.proofs.Finding.{none_passes, none_named, none_there, other_there, found_there, finds_more}
 use Rattle.world_scene.proofs.Views.{position_map, any_map, any_filter, count_filter, wallets_view, wallet_account_view}
 

@@ -8,3 +8,4 @@ pub mod Scans
 pub mod Strangers
 pub mod Views
 pub mod Calls
+mod Words

@@ -1,17 +1,5 @@
 -- A node among the nodes of a world, and the world with it changed.
-use Rattle.std.proofs.Common.{◌≡◌, sym, ap, ◌∙◌, subst, true, ℕ, ◌<◌, List, length, slice_get, slice_set, slice_index_or, Some}
-use Rattle.std.specs.List.{All}
-use Rattle.std.proofs.lemmas.List.Elements.{All-set}
-use Rattle.std.proofs.lemmas.Option.{slice_get-get_or}
-use Rattle.crash_disk.specs.declared.outcome.Outcome.{Outcome}
-use Rattle.plasma_tx.specs.declared.call.RootCall.{RootCall}
-use Rattle.node_replies.specs.declared.given.Given.{Given}
-use Rattle.node_replies.specs.declared.order.NodeOrder.{NodeOrder}
-use Rattle.world_nodes.specs.declared.order.CutEnd.{CutEnd}
-use Rattle.world_nodes.specs.Cuts.{Cuts}
-use Rattle.world_nodes.specs.Orders.{fits}
-use Rattle.world_nodes.specs.Nodes.{NodeView, Spells, Runs, Crashes}
-use Rattle.world_scene.specs.Steps.{AllHash, FitsAt, RunsAt, CrashesAt, CutsAt}
+use Rattle.world_scene.proofs.Words.{◌≡◌, sym, ap, ◌∙◌, subst, true, ℕ, ◌<◌, List, length, slice_get, slice_set, slice_index_or, Some, All, All-set, slice_get-get_or, Outcome, RootCall, Given, NodeOrder, CutEnd, Cuts, fits, NodeView, Spells, Runs, Crashes, AllHash, FitsAt, RunsAt, CrashesAt, CutsAt}
 
 -- the node that stands at n, of nodes that are seen
 module _ {H : Type 0} (nodes seen : List (NodeView H)) (same : nodes ≡ seen) (n : ℕ) (before : NodeView H)

@@ -1,10 +1,5 @@
 -- A list is gone through from its front, up to the first element that passes.
-use Rattle.std.proofs.Common.{◌≡◌, refl, sym, ap, ◌∙◌, suc, ℕ, ◌+◌, ◌<◌, Bool, true, false, ◌||◌, cond, nat_lt, List, [], ◌∷◌, ◌++◌, take, length, get_or, find, Option, Some, None, arith}
-use Rattle.std.specs.Prelude.{option_map, is_some, slice_get}
-use Rattle.std.specs.List.{position, position_or_len, list_any}
-use Rattle.std.proofs.lemmas.List.{take_more}
-use Rattle.std.proofs.lemmas.List.Folds.{find_at, list_any-append}
-use Rattle.world_rules.proofs.Existence.{position-parts, position-is}
+use Rattle.world_scene.proofs.Words.{◌≡◌, refl, sym, ap, ◌∙◌, suc, ℕ, ◌+◌, ◌<◌, Bool, true, false, ◌||◌, cond, nat_lt, List, [], ◌∷◌, ◌++◌, take, length, get_or, find, Option, Some, None, arith, option_map, is_some, slice_get, position, position_or_len, list_any, take_more, find_at, list_any-append, position-parts, position-is}
 
 -- the first place, by whether a first element passes, and by that behind it
 abbrev first_by : Bool → Option ℕ → Option ℕ

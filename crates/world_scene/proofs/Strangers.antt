@@ -1,11 +1,5 @@
 -- Strangers are found by their names.
-use Rattle.std.proofs.Common.{◌≡◌, ◌∙◌, ℕ, true, false, List, [], ◌∷◌, ◌++◌, find, length, Some, None}
-use Rattle.std.specs.Prelude.{slice_get}
-use Rattle.std.proofs.lemmas.Slice.Eq.{bytes_eq-Decides}
-use Rattle.world_rules.specs.World.{Rogue}
-use Rattle.world_scene.specs.declared.places.Places.{Places}
-use Rattle.world_scene.specs.Names.{is_named_rogue}
-use Rattle.world_scene.specs.Places.{place_in, PutsPlace, FindsEach}
+use Rattle.world_scene.proofs.Words.{◌≡◌, ◌∙◌, ℕ, true, false, List, [], ◌∷◌, ◌++◌, find, length, Some, None, slice_get, bytes_eq-Decides, Rogue, Places, is_named_rogue, place_in, PutsPlace, FindsEach}
 use Rattle.world_scene.proofs.Scans.{found_at_place, none_is_found}
 use Rattle.world_scene.proofs.Finding.{none_passes, none_placed, none_named, none_there, other_there, found_there, finds_more}
 

@@ -1,25 +1,9 @@
 -- What is looked up among nodes with their disks, and among nodes alone.
-use Rattle.std.proofs.Common.{◌≡◌, refl, sym, ap, ◌∙◌, ℕ, ◌+◌, if◌then◌else◌, Bool, not, cond, ◌&&◌, ◌||◌, List, [], ◌∷◌, map, filter, length, reverse, find, ◌==◌, Option, Some, None, option_map, arith}
-use Rattle.std.specs.Prelude.{IfSome, is_some, slice_get}
-use Rattle.std.specs.List.{list_any, count_by, position, prefix_len}
-use Rattle.std.proofs.lemmas.List.{length-map}
+use Rattle.world_scene.proofs.Words.{◌≡◌, refl, sym, ap, ◌∙◌, ℕ, ◌+◌, if◌then◌else◌, Bool, not, cond, ◌&&◌, ◌||◌, List, [], ◌∷◌, map, filter, length, reverse, find, ◌==◌, Option, Some, None, option_map, arith, IfSome, is_some, slice_get, list_any, count_by, position, prefix_len, length-map, list_any-append, bytes_eq, who_is, wallet_nodes, is_wallet_account, is_wallet_key, is_wallet_seed, is_declared_account, is_declared, owner_of_node, owner_of_rogue, owner_named, is_named, is_wallet_role, number_of, NodeView, Owner, and_parts, same_Some, position-is, Roles, SceneState, world_of, node_in, passes, is_named_view, is_named_rogue, owner_in_view, is_wallet_view, is_wallet_with, has_wallet_key, has_wallet_seed, is_view_with, is_rogue_with, is_same_account}
 use Rattle.std.proofs.lemmas.List.Sums.{length-filter, sum_by-cons}
-use Rattle.std.proofs.lemmas.List.Folds.{list_any-append}
 use Rattle.std.proofs.lemmas.Grind.{reverse_onto}
 use Rattle.std.specs.Option.{option_or}
-use Rattle.std.specs.Str.{bytes_eq}
-use Rattle.node_rules.specs.WalletRecords.{who_is}
-use Rattle.world_rules.specs.Declarations.{wallet_nodes, is_wallet_account, is_wallet_key, is_wallet_seed, is_declared_account, is_declared}
-use Rattle.world_rules.specs.World.{owner_of_node, owner_of_rogue, owner_named, is_named, is_wallet_role, number_of}
-use Rattle.world_nodes.specs.Nodes.{NodeView}
-use Rattle.plasma_tx.specs.declared.owner.Owner.{Owner}
-use Rattle.std.proofs.lemmas.Bool.{and_parts}
-use Rattle.std.proofs.lemmas.Option.{same_Some}
-use Rattle.world_rules.proofs.Existence.{position-is}
 use Rattle.world_scene.proofs.Scans.{found_at_place, found_where_placed}
-use Rattle.world_scene.specs.declared.names.Roles.{Roles}
-use Rattle.world_scene.specs.Scenes.{SceneState, world_of, node_in}
-use Rattle.world_scene.specs.Names.{passes, is_named_view, is_named_rogue, owner_in_view, is_wallet_view, is_wallet_with, has_wallet_key, has_wallet_seed, is_view_with, is_rogue_with, is_same_account}
 
 -- ---- among what a function gives of each
 
