@@ -1,17 +1,6 @@
 -- The counts of a world are those of its run.
-use Rattle.std.proofs.Common.{◌≡◌, ℕ, List, length, Some, None, refl, sym, ap, ◌∙◌}
-use Rattle.std.specs.List.{count_by}
+use Rattle.world_core.proofs.Words.{◌≡◌, ℕ, List, length, Some, None, refl, sym, ap, ◌∙◌, count_by, tests_by, rules_of, Line, Verdict, log_of, TraceEntry, Run, run_of, events_of, is_refused, verdicts_of, counts_of, TraceState, SceneState, RunningState, IsAfter, verdict_counts, with_log}
 use Rattle.plasma_tx.specs.Views.{blocks, coins}
-use Rattle.plasma_tx.specs.Shown.{tests_by, rules_of}
-use Rattle.schedule_text.specs.declared.line.Line.{Line}
-use Rattle.world_rules.specs.declared.verdict.Verdict.{Verdict}
-use Rattle.world_rules.specs.Events.{log_of}
-use Rattle.world_rules.specs.Steps.{TraceEntry, Run, run_of, events_of}
-use Rattle.world_rules.specs.Verdicts.{is_refused, verdicts_of, counts_of}
-use Rattle.world_trace.specs.Traces.{TraceState}
-use Rattle.world_scene.specs.Scenes.{SceneState}
-use Rattle.world_core.specs.Worlds.{RunningState, IsAfter}
-use Rattle.world_core.specs.Counting.{verdict_counts, with_log}
 use Rattle.world_core.proofs.RunFacts.{facts_count}
 use Rattle.world_core.proofs.Readings.{same-run, no_entries, tells, log_is}
 

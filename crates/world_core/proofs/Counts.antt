@@ -1,11 +1,5 @@
 -- How many answers begin with `refused`, with one more answer.
-use Rattle.std.proofs.Common.{◌≡◌, ℕ, ◌+◌, ◌-◌, ◌^◌, ◌<◌, ◌≤◌, Bool, true, false, List, ◌∷◌, length, cond, sym, ap, ◌∙◌, subst, arith}
-use Rattle.std.specs.Prelude.{min, if◌then◌else◌}
-use Rattle.std.specs.List.{count_by}
-use Rattle.std.proofs.lemmas.List.Sums.{sum_by-cons, count_by-le-length}
-use Rattle.world_rules.specs.Steps.{TraceEntry}
-use Rattle.world_rules.specs.Verdicts.{is_refused}
-use Rattle.world_core.specs.Counting.{with_answer}
+use Rattle.world_core.proofs.Words.{◌≡◌, ℕ, ◌+◌, ◌-◌, ◌^◌, ◌<◌, ◌≤◌, Bool, true, false, List, ◌∷◌, length, cond, sym, ap, ◌∙◌, subst, arith, min, if◌then◌else◌, count_by, sum_by-cons, count_by-le-length, TraceEntry, is_refused, with_answer}
 
 -- a count that is smaller than the type's last number goes on by one
 one-more : (count : ℕ) → count + 1 < 2 ^ 64 → min (count + 1) (2 ^ 64 - 1) ≡ count + 1

@@ -7,3 +7,4 @@ pub mod Takings
 pub mod Readings
 pub mod Countings
 pub mod NameLines
+mod Words

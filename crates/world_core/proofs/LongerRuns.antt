@@ -1,37 +1,8 @@
 -- A world that took a line is what the lines with it leave.
-use Rattle.std.proofs.Common.{◌≡◌, ℕ, ◌+◌, ◌^◌, ◌<◌, ◌≤◌, Bool, true, false, nat_lt, if◌then◌else◌, List, [], ◌∷◌, ◌++◌, map, length, Option, Some, None, refl, sym, ap, ◌∙◌, subst, arith}
-use Rattle.std.specs.Prelude.{option_map, option_and_then}
-use Rattle.std.specs.List.{All, count_by}
-use Rattle.std.proofs.lemmas.Bool.{lt-ltb, le-ltb}
-use Rattle.std.proofs.lemmas.List.{map-append}
-use Rattle.std.proofs.lemmas.List.Elements.{All-nil, All-cons}
-use Rattle.line_forms.proofs.FormLaws.{option_map_some}
+use Rattle.world_core.proofs.Words.{◌≡◌, ℕ, ◌+◌, ◌^◌, ◌<◌, ◌≤◌, Bool, true, false, nat_lt, if◌then◌else◌, List, [], ◌∷◌, ◌++◌, map, length, Option, Some, None, refl, sym, ap, ◌∙◌, subst, arith, option_map, option_and_then, All, count_by, lt-ltb, le-ltb, map-append, All-nil, All-cons, option_map_some, some_same, Tests, Rules, tests_by, rules_of, Line, IsLine, World, keeps_rules, Event, log_of, LineEffect, effect_in, effect_of, with_mail, step, mail_size, is_mail_full, TraceEntry, entry_of, Run, no_lines, with_line, step_run, run_of, events_of, is_refused, wallets_from, named_of, logs_are_of_events, LineEvent, IsEvent, declared_by, TraceState, no_trace, Tells, LineAnswer, SceneState, shown_of, world_of, answered, TellsEffect, RunningState, before_all, world_in, TellsIn, wallets_in, MadeBytes, IsAfter, name_in, IsStep, WouldFill, TellsLine, Takes, scene_with, with_item, with_answer}
 use Rattle.plasma_tx.specs.Spelling.{AreBytes}
-use Rattle.plasma_tx.proofs.Names.{some_same}
-use Rattle.plasma_tx.specs.Shown.{Tests, Rules, tests_by, rules_of}
-use Rattle.schedule_text.specs.declared.line.Line.{Line}
-use Rattle.schedule_text.specs.Grammar.{IsLine}
 use Rattle.world_rules.specs.declared.TheConstants.{MOST_MAIL}
 use Rattle.world_rules.specs.declared.trace.TraceLine.{TraceLine}
-use Rattle.world_rules.specs.World.{World}
-use Rattle.world_rules.specs.Declarations.{keeps_rules}
-use Rattle.world_rules.specs.Events.{Event, log_of}
-use Rattle.world_rules.specs.Steps.{LineEffect, effect_in, effect_of, with_mail, step, mail_size, is_mail_full, TraceEntry, entry_of, Run, no_lines, with_line, step_run, run_of, events_of}
-use Rattle.world_rules.specs.Verdicts.{is_refused, wallets_from}
-use Rattle.coin_verdicts.specs.Wallets.{named_of}
-use Rattle.world_rules.proofs.RunLaws.{logs_are_of_events}
-use Rattle.world_trace.specs.declared.event.LineEvent.{LineEvent}
-use Rattle.world_trace.specs.Events.{IsEvent}
-use Rattle.world_trace.specs.Read.{declared_by}
-use Rattle.world_trace.specs.Traces.{TraceState, no_trace, Tells}
-use Rattle.world_scene.specs.declared.answer.LineAnswer.{LineAnswer}
-use Rattle.world_scene.specs.Scenes.{SceneState, shown_of, world_of}
-use Rattle.world_scene.specs.Steps.{answered}
-use Rattle.world_scene.specs.Events.{TellsEffect}
-use Rattle.world_core.specs.Worlds.{RunningState, before_all, world_in, TellsIn, wallets_in, MadeBytes, IsAfter}
-use Rattle.world_core.specs.Lines.{name_in, IsStep, WouldFill}
-use Rattle.world_core.specs.Taking.{TellsLine, Takes, scene_with, with_item}
-use Rattle.world_core.specs.Counting.{with_answer}
 use Rattle.world_core.proofs.WalletLines.{has_wallets}
 use Rattle.world_core.proofs.NameLines.{line_named}
 use Rattle.world_core.proofs.Counts.{refused_more}

@@ -1,34 +1,12 @@
 -- The wallets of a world behind one more line: a line that declares one adds it, and no other line does.
-use Rattle.std.proofs.Common.{◌≡◌, ℕ, suc, ◌+◌, Bool, true, false, if◌then◌else◌, List, [], ◌∷◌, ◌++◌, length, map, set, slice_get, Option, Some, None, refl, sym, ap, ◌∙◌, subst, arith}
-use Rattle.std.proofs.lemmas.Bool.{false≢true}
-use Rattle.std.proofs.lemmas.List.{append-nil}
+use Rattle.world_core.proofs.Words.{◌≡◌, ℕ, suc, ◌+◌, Bool, true, false, if◌then◌else◌, List, [], ◌∷◌, ◌++◌, length, map, set, slice_get, Option, Some, None, refl, sym, ap, ◌∙◌, subst, arith, false≢true, append-nil, RootCall, Tests, Rules, tests_by, rules_of, answer_to, is_accepted, some_same, Line, wallet_text, Event, Declares, Joins, Bounces, Watches, Wallet, Watcher, Node, World, is_wallet_role, keeps_rules, LineEffect, new_node, declares_wallet, declares_watcher, called, after_crash, effect_of, Named, wallets_from, NewWallet, NewWatcher, NewRogue, Act, Adds, Enters, Orders, Crashes, callers_after, end_of, node_after, deed_at, done, IsActOf, is-act, act-kept, card-after, named_of, LineEvent, IsEvent, IsJoin, IsWatch, declared_by, wallets_in, name_in}
 use Rattle.lms_sign.specs.declared.types.LmsTypes.{LmsTypes}
-use Rattle.plasma_tx.specs.declared.call.RootCall.{RootCall}
 use Rattle.plasma_tx.specs.declared.answer.Answer.{Answer}
-use Rattle.plasma_tx.specs.Shown.{Tests, Rules, tests_by, rules_of}
-use Rattle.plasma_tx.specs.Table.{answer_to, is_accepted}
-use Rattle.plasma_tx.proofs.Names.{some_same}
-use Rattle.schedule_text.specs.declared.line.Line.{Line}
 use Rattle.node_rules.specs.declared.identity.WalletIdentity.{WalletIdentity}
-use Rattle.node_rules.specs.WalletRecords.{identity_text as wallet_text}
 use Rattle.node_rules.specs.Watcher.{identity_text as watcher_text}
-use Rattle.world_rules.specs.Events.{Event, Declares, Joins, Bounces, Accepts, Guards, Releases, Binds, TakesBack, Watches, Leaves, Seals, Other, Idle}
-use Rattle.world_rules.specs.World.{Wallet, Watcher, Node, World, is_wallet_role}
-use Rattle.world_rules.specs.Declarations.{keeps_rules}
-use Rattle.world_rules.specs.Steps.{LineEffect, new_node, declares_wallet, declares_watcher, called, after_crash, effect_of}
-use Rattle.world_rules.specs.Verdicts.{Named, wallets_from}
-use Rattle.world_rules.specs.Acts.{NewWallet, NewWatcher, NewRogue, Act, Adds, Enters, Orders, Crashes, callers_after, end_of, node_after, deed_at, done}
-use Rattle.world_rules.proofs.Lines.{IsActOf, is-act, act-kept}
 use Rattle.world_rules.proofs.Named.{Card, card, cards, cards-set}
 use Rattle.world_rules.proofs.KeptNames.{is_plain}
 use Rattle.world_rules.proofs.NamedDeeds.{IsDeed, Plain, Accepting, order-is}
-use Rattle.world_rules.proofs.NamedSteps.{card-after}
-use Rattle.coin_verdicts.specs.Wallets.{named_of}
-use Rattle.world_trace.specs.declared.event.LineEvent.{LineEvent}
-use Rattle.world_trace.specs.Events.{IsEvent, IsJoin, IsWatch}
-use Rattle.world_trace.specs.Read.{declared_by}
-use Rattle.world_core.specs.Worlds.{wallets_in}
-use Rattle.world_core.specs.Lines.{name_in}
 
 -- a line that declares no wallet names none
 pub no_name : (line : Line)
@@ -109,17 +87,8 @@ module _ (tests : Tests) (rules : Rules) (log : List RootCall) (name : List ℕ)
       → declared_by name event ≡ []
   silent-none (Declares w me) event silent is = absurd (false≢true silent)
   silent-none (Joins call) event silent is = joins-none call event is
-  silent-none (Bounces call) event silent is = ap (declared_by name) is
-  silent-none (Accepts w bundle) event silent is = ap (declared_by name) is
-  silent-none (Guards g bundle) event silent is = ap (declared_by name) is
-  silent-none (Releases g c e) event silent is = ap (declared_by name) is
-  silent-none (Binds w body) event silent is = ap (declared_by name) is
-  silent-none (TakesBack w q bundle) event silent is = ap (declared_by name) is
   silent-none (Watches n calls) event silent is = watch-none n calls event is
-  silent-none (Leaves n call) event silent is = ap (declared_by name) is
-  silent-none (Seals call) event silent is = ap (declared_by name) is
-  silent-none (Other n) event silent is = ap (declared_by name) is
-  silent-none Idle event silent is = ap (declared_by name) is
+  silent-none told event silent is = ap (declared_by name) is
 
 -- ---- lines that declare no wallet
 

@@ -1,30 +1,12 @@
 -- What verdicts and the exhibit are read of is what a run left.
-use Rattle.std.proofs.Common.{◌≡◌, ℕ, List, [], ◌∷◌, map, Option, Some, None, refl, sym, ap, ◌∙◌, subst}
-use Rattle.std.specs.Prelude.{option_map, Result, Vec, IfOk}
+use Rattle.world_core.proofs.Words.{◌≡◌, ℕ, List, [], ◌∷◌, map, Option, Some, None, refl, sym, ap, ◌∙◌, subst, option_map, Result, Vec, IfOk, flat_map, option_map_or, some_same, Tests, Rules, tests_by, rules_of, IsLegal, Line, Verdict, World, Event, log_of, TraceEntry, Run, run_of, events_of, verdicts_on, wallets_from, verdicts_in, verdicts_of, exhibit_of_run, run-kept, logs_are_of_events, named_of, TraceState, no_trace, Tells, SceneState, world_of, RunningState, world_in, TellsIn, wallets_in, IsAfter}
 use Rattle.std.specs.Global.{Global}
 use Rattle.std.proofs.lemmas.Result.{IfOk-weaker}
-use Rattle.std.specs.List.{flat_map}
-use Rattle.std.specs.Option.{option_map_or}
-use Rattle.plasma_tx.proofs.Names.{some_same}
-use Rattle.plasma_tx.specs.Shown.{Tests, Rules, tests_by, rules_of}
-use Rattle.plasma_tx.specs.Table.{IsLegal}
-use Rattle.schedule_text.specs.declared.line.Line.{Line}
-use Rattle.world_rules.specs.declared.verdict.Verdict.{Verdict}
 use Rattle.world_rules.specs.declared.verdict.Exhibit.{Exhibit}
-use Rattle.world_rules.specs.World.{World}
-use Rattle.world_rules.specs.Events.{Event, log_of}
-use Rattle.world_rules.specs.Steps.{TraceEntry, Run, run_of, events_of}
 use Rattle.world_rules.specs.Exhibits.{exhibit_of}
-use Rattle.world_rules.specs.Verdicts.{verdicts_on, wallets_from, verdicts_in, verdicts_of, exhibit_of_run}
 use Rattle.world_rules.proofs.HeldTips.{OwnersStay as Stay}
-use Rattle.world_rules.proofs.NamedSteps.{run-kept}
-use Rattle.world_rules.proofs.RunLaws.{logs_are_of_events}
 use Rattle.coin_verdicts.specs.Facts.{OwnersStay}
-use Rattle.coin_verdicts.specs.Wallets.{named_of}
-use Rattle.world_trace.specs.Traces.{TraceState, no_trace, Tells}
 use Rattle.world_trace.proofs.Telling.{nothing_shown}
-use Rattle.world_scene.specs.Scenes.{SceneState, world_of}
-use Rattle.world_core.specs.Worlds.{RunningState, world_in, TellsIn, wallets_in, IsAfter}
 use Rattle.world_core.proofs.RunFacts.{legal_events, tells_none}
 
 -- rules of no contract

@@ -1,22 +1,8 @@
 -- What holds of the calls, the mail and the facts of every run.
-use Rattle.std.proofs.Common.{◌≡◌, ℕ, suc, ◌+◌, List, [], ◌∷◌, length, map, reverse, Option, Some, None, inl, inr, refl, sym, ap, ◌∙◌, subst, arith}
-use Rattle.std.specs.Prelude.{sum_by}
-use Rattle.std.specs.Option.{option_map_or}
+use Rattle.world_core.proofs.Words.{◌≡◌, ℕ, suc, ◌+◌, List, [], ◌∷◌, length, map, reverse, Option, Some, None, inl, inr, refl, sym, ap, ◌∙◌, subst, arith, sum_by, option_map_or, length-reverse, sum_by-append, Chain, Tests, Rules, tests_by, rules_of, IsLegal, Line, World, log_of, wallets, LineEffect, mail_size, step, TraceEntry, entry_of, Run, run_of, events_of, steps_keep_the_log, logs_are_of_events, items_are_made, TraceState, no_trace, Tells}
 use Rattle.std.proofs.lemmas.Grind.{reverse_onto}
-use Rattle.std.proofs.lemmas.List.{length-reverse}
-use Rattle.std.proofs.lemmas.List.Sums.{sum_by-append}
-use Rattle.plasma_tx.specs.Chain.{Chain}
-use Rattle.plasma_tx.specs.Shown.{Tests, Rules, tests_by, rules_of}
-use Rattle.plasma_tx.specs.Table.{IsLegal}
-use Rattle.schedule_text.specs.declared.line.Line.{Line}
-use Rattle.world_rules.specs.World.{World}
-use Rattle.world_rules.specs.Events.{log_of, wallets}
-use Rattle.world_rules.specs.Steps.{LineEffect, mail_size, step, TraceEntry, entry_of, Run, run_of, events_of}
-use Rattle.world_rules.proofs.StepLaws.{steps_keep_the_log}
 use Rattle.world_rules.proofs.Runs.{over_run}
-use Rattle.world_rules.proofs.RunLaws.{logs_are_of_events, items_are_made}
 use Rattle.coin_verdicts.proofs.Forms.{as-many}
-use Rattle.world_trace.specs.Traces.{TraceState, no_trace, Tells}
 
 -- ---- the log
 

@@ -1,21 +1,7 @@
 -- What the lines of a world do to it, by what they do to its scene.
-use Rattle.std.proofs.Common.{◌≡◌, ℕ, true, false, List, [], Option, Some, None, refl, sym, ap, ◌∙◌, subst}
-use Rattle.std.specs.Prelude.{option_map}
-use Rattle.line_forms.proofs.FormLaws.{option_map_some}
-use Rattle.schedule_text.specs.declared.line.Line.{Line}
+use Rattle.world_core.proofs.Words.{◌≡◌, ℕ, true, false, List, [], Option, Some, None, refl, sym, ap, ◌∙◌, subst, option_map, option_map_some, Line, keeps_rules, keeps_rules_in, new_chain, new_world, effect_of, LineEvent, LineAnswer, SceneState, shows, world_of, answered, TellsInRuns, AllSpell, RunningState, NodesSpell, MovesIn, shows_in, TellsLine, Takes, scene_with, with_item}
 use Rattle.node_replies.specs.declared.reply.Reply.{Reply}
-use Rattle.world_rules.specs.Declarations.{keeps_rules, keeps_rules_in}
-use Rattle.world_rules.specs.Steps.{new_chain, new_world, effect_of}
-use Rattle.world_trace.specs.declared.event.LineEvent.{LineEvent}
-use Rattle.world_scene.specs.declared.answer.LineAnswer.{LineAnswer}
-use Rattle.world_scene.specs.Scenes.{SceneState, shows, world_of}
-use Rattle.world_scene.specs.Steps.{answered}
-use Rattle.world_scene.specs.Events.{TellsInRuns}
-use Rattle.world_scene.specs.Steps.{AllSpell}
 use Rattle.world_scene.specs.Moves.{Moves}
-use Rattle.world_core.specs.Worlds.{RunningState, NodesSpell}
-use Rattle.world_core.specs.Lines.{MovesIn}
-use Rattle.world_core.specs.Taking.{shows_in, TellsLine, Takes, scene_with, with_item}
 
 -- the answer of the first line
 abbrev pub begun_as : List ℕ → LineAnswer

@@ -1,29 +1,9 @@
 -- The wallets of a run whose lines are in the grammar and made bytes have a wallet's records.
-use Rattle.std.proofs.Common.{◌≡◌, ℕ, zero, suc, List, Some, inl, inr, sym, subst}
-use Rattle.std.specs.List.{All}
-use Rattle.std.proofs.lemmas.Bool.{false≢true}
-use Rattle.std.proofs.lemmas.List.Elements.{All-head, All-tail}
-use Rattle.plasma_tx.specs.Chain.{Chain}
-use Rattle.schedule_text.specs.declared.line.Line.{Line}
-use Rattle.schedule_text.specs.Grammar.{IsLine}
-use Rattle.node_rules.specs.WalletRecords.{owner_of}
-use Rattle.world_rules.specs.Events.{Declares}
-use Rattle.world_rules.specs.World.{Node, World, wallet_of}
-use Rattle.world_rules.specs.Deeds.{Deed}
-use Rattle.world_rules.specs.Steps.{with_records, entry_of, Run, run_of}
-use Rattle.world_rules.specs.Acts.{NewWallet, NewWatcher, NewRogue, Act, Adds, Orders, Crashes, End, Lost, end_of, node_after, deed_at, done}
+use Rattle.world_core.proofs.Words.{◌≡◌, ℕ, zero, suc, List, Some, inl, inr, sym, subst, All, false≢true, All-head, All-tail, Chain, Line, IsLine, owner_of, Declares, Node, World, wallet_of, Deed, with_records, entry_of, Run, run_of, NewWallet, NewWatcher, NewRogue, Act, Adds, Orders, Crashes, End, Lost, end_of, node_after, deed_at, done, told, nothing_said, wallet-longer, first-frame, frame-kept, frame-item, joined-wallet, order-at, change_of, EachNode, IsKeptOwn, each_node_keeps, IfThere, node-there, others-there, act-log, HasWallets, MadeBytes}
 use Rattle.world_rules.specs.Evidence.{IsActIn}
-use Rattle.world_rules.proofs.Said.{told, nothing_said}
-use Rattle.world_rules.proofs.KeptWallet.{wallet-longer}
-use Rattle.world_rules.proofs.KeptFrame.{first-frame, frame-kept, frame-item, joined-wallet}
 use Rattle.world_rules.proofs.FitLines.{chain-fit}
 use Rattle.world_rules.proofs.Fitting.{IsFitAct, act-fits}
-use Rattle.world_rules.proofs.Lines.{order-at}
 use Rattle.world_rules.proofs.Lives.{begun, line_effect, good_runs_keep}
-use Rattle.world_rules.proofs.Nodes.{change_of, EachNode, IsKeptOwn, each_node_keeps, IfThere, node-there, others-there}
-use Rattle.world_rules.proofs.StepLaws.{act-log}
-use Rattle.world_scene.specs.Events.{HasWallets}
-use Rattle.world_core.specs.Worlds.{MadeBytes}
 use Rattle.world_core.proofs.WalletRecords.{IsKept, KeepsWallets, feeds, order-keeps}
 
 module _ (dig : List ℕ → List ℕ) (world : World) (kept : KeepsWallets dig world) where

@@ -1,25 +1,14 @@
 -- A world whose wallets have a wallet's records keeps it behind each order of a node.
-use Rattle.std.proofs.Common.{◌≡◌, ℕ, true, List, Option, Some, None, refl, sym, ◌∙◌, subst}
-use Rattle.std.specs.Prelude.{Result}
-use Rattle.std.proofs.lemmas.Bool.{false≢true}
-use Rattle.plasma_tx.specs.declared.call.RootCall.{RootCall}
+use Rattle.world_core.proofs.Words.{◌≡◌, ℕ, true, List, Option, Some, None, refl, sym, ◌∙◌, subst, Result, false≢true, RootCall, owner_of, Node, World, wallet_of, is_wallet_role, as_deed, with_records, Said, KeptWallet, HasFrame, few-in, frame-feeds, EachNode, IfThere, node-there}
 use Rattle.node_rules.specs.declared.refusal.WalletRefusal.{WalletRefusal}
-use Rattle.node_rules.specs.WalletRecords.{owner_of}
 use Rattle.node_rules.specs.WalletCommandLaws.{with_more, after}
 use Rattle.node_rules.specs.Wallet.{WalletRecords, WalletEffect, accept_effect, send_effect, leave_effect, reclaim_effect, migrate_effect}
 use Rattle.node_replies.specs.declared.order.NodeOrder.{NodeOrder}
 use Rattle.node_replies.specs.declared.order.WalletOrder.{WalletOrder}
 use Rattle.node_replies.specs.Orders.{Response, Doing, wallet_doing, with_record, on_accepted, on_sent, on_leaving, on_reclaimed, on_migrated, wallet_does}
-use Rattle.world_rules.specs.World.{Node, World, wallet_of, is_wallet_role}
-use Rattle.world_rules.specs.Deeds.{as_deed}
 use Rattle.world_rules.specs.Orders.{node_does}
-use Rattle.world_rules.specs.Steps.{with_records}
 use Rattle.world_rules.proofs.OrderEnds.{IsOrderAt}
-use Rattle.world_rules.proofs.Said.{Said}
-use Rattle.world_rules.proofs.KeptWallet.{KeptWallet}
 use Rattle.world_rules.proofs.KeptNode.{Feeds, IsFitOrder, wallet-alone}
-use Rattle.world_rules.proofs.KeptFrame.{HasFrame, few-in, frame-feeds}
-use Rattle.world_rules.proofs.Nodes.{EachNode, IfThere, node-there}
 use Rattle.world_rules.proofs.WalletAccepts.{accepts-kept}
 use Rattle.world_rules.proofs.WalletSends.{sends-kept}
 use Rattle.world_rules.proofs.WalletNotes.{reclaims-kept, leaves-kept, migrates-kept}
@@ -75,7 +64,6 @@ module _ (dig : List ℕ → List ℕ) (world : World) (kept : KeepsWallets dig 
       kept-by _ wallet on_sent (send_effect dig wallet world.chain.log coin to last)
       (sends-kept dig s world.chain.log wallet has (few-in world kept.frame) coin to last fit.0 fit.1.is fit.1.key fit.2
       n)
-  wallet-keeps n s wallet has (WalletOrder.Again coin) fit = (s, has)
   wallet-keeps n s wallet has (WalletOrder.Leave coin) fit =
       kept-by _ wallet on_leaving (leave_effect dig wallet world.chain.log coin)
       (leaves-kept dig s world.chain.log wallet has (few-in world kept.frame) n coin fit)
@@ -85,7 +73,7 @@ module _ (dig : List ℕ → List ℕ) (world : World) (kept : KeepsWallets dig 
   wallet-keeps n s wallet has WalletOrder.Migrate fit =
       kept-by _ wallet on_migrated (migrate_effect wallet)
       (migrates-kept dig s world.chain.log wallet has (few-in world kept.frame) n)
-  wallet-keeps n s wallet has WalletOrder.Watch fit = (s, has)
+  wallet-keeps n s wallet has order fit = (s, has)
 
   -- a wallet has no order of another node
   pub order-keeps : (n : ℕ) (node : Node) (order : NodeOrder) → IsOrderAt node.role order → IsFitOrder order
