@@ -1,16 +1,13 @@
 -- A node's run, where why its reading failed is left out.
-use Rattle.std.proofs.Common.{ℕ, List, Option, Some, None, inl, inr}
-use Rattle.crash_disk.specs.Disk.{History, FaultPlan}
+use Rattle.run_lives.proofs.Words.{ℕ, List, Option, Some, None, inl, inr, History, FaultPlan, Status, Outside, RunsSession}
 use Rattle.plasma_tx.specs.declared.call.RootCall.{RootCall}
 use Rattle.node_journal.specs.Notes.{NotesState}
 use Rattle.streamed_lines.specs.Streams.{Rules, stream_of}
-use Rattle.run_endings.specs.declared.status.Status.{Status}
-use Rattle.run_endings.specs.declared.status.Status.TheVariants.{Done, Refused, Usage, BadLine, ReadFault, WriteFault, DeviceFault, NoMemory, TooLong, NotJournal, AlreadyMade}
+use Rattle.run_endings.specs.declared.status.Status.TheVariants.{ReadFault, WriteFault, NoMemory}
 use Rattle.run_endings.specs.Outputs.{Output, EndsAs}
 use Rattle.operator_rules.specs.Records.{who_is}
 use Rattle.node_sessions.specs.Sessions.{SessionState, begun}
 use Rattle.run_endings.specs.Endings.{session_output}
-use Rattle.node_runs.specs.Sessions.{Outside, RunsSession}
 use Rattle.node_runs.specs.Runs.{RunsWatcher, RunsWallet}
 use Rattle.node_runs.specs.Operators.{RunsBehind, RunsOperator}
 
@@ -19,14 +16,7 @@ ends-any : (output : Output) (status : Status) (before after : Option (List ℕ)
 ends-any output WriteFault before after failed ends = record { front = ends.front; fault = λ is. inl tt }
 ends-any output NoMemory before after failed ends = record { front = ends.front; fault = λ is. inl tt }
 ends-any output ReadFault before after failed ends = (ends.0, tt)
-ends-any output Done before after failed ends = ends
-ends-any output Refused before after failed ends = ends
-ends-any output Usage before after failed ends = ends
-ends-any output BadLine before after failed ends = ends
-ends-any output DeviceFault before after failed ends = ends
-ends-any output TooLong before after failed ends = ends
-ends-any output NotJournal before after failed ends = ends
-ends-any output AlreadyMade before after failed ends = ends
+ends-any output status before after failed ends = ends
 
 module _ {A L : Type 0} {rules : Rules (SessionState A) (List ℕ)} {command_in : List ℕ → Option L} {found : A}
     {Left : A → Type 0} {Faulted Unanswered : List RootCall → A → L → Type 0} {outside : Outside} {failed : Type 0}

@@ -1,3 +1,4 @@
 mod AnyFailure
 mod LifeLaws
 mod Spelled
+mod Words

@@ -1,15 +1,9 @@
 -- What a run of the program does is a call of a node's life.
-use Rattle.std.proofs.Common.{◌≡◌, ℕ, false, List, Option, Some, None, refl, ap, ◌∙◌, inl, inr}
-use Rattle.crash_disk.specs.Disk.{History, FaultPlan}
-use Rattle.run_words.specs.declared.form.Form.{Form}
-use Rattle.run_words.specs.declared.form.Form.TheVariants.{Replay, Brief, Wallet, Operator, Watcher, InitWallet, InitOperator, InitWatcher, Make, Verify, HssInit, HssSign, HssVerify, Audit, Archive}
-use Rattle.run_endings.specs.declared.status.Status.{Status}
-use Rattle.node_runs.specs.Sessions.{Outside}
+use Rattle.run_lives.proofs.Words.{◌≡◌, ℕ, false, List, Option, Some, None, refl, ap, ◌∙◌, inl, inr, History, FaultPlan, Form, Replay, Brief, Wallet, Operator, Watcher, InitWallet, InitOperator, InitWatcher, Make, Verify, HssInit, HssSign, HssVerify, Audit, Archive, Status, Outside, asked_of, RunsAreCalls}
 use Rattle.node_lives.specs.Disks.{Pair}
 use Rattle.node_lives.specs.Calls.{DoesAsked}
 use Rattle.replay_run.specs.Forms.{uses_notes, uses_leaves}
 use Rattle.replay_run.specs.Does.{DoesForm}
-use Rattle.run_lives.specs.Calls.{asked_of, RunsAreCalls}
 use Rattle.run_lives.proofs.AnyFailure.{watcher-any, operator-any, wallet-any}
 
 both-same : {D : Type 0} (one other : Pair D) → one.notes ≡ other.notes → one.leaves ≡ other.leaves → one ≡ other

@@ -1,5 +1,5 @@
 -- What the words of an init spell: an identity whose fields are of their types, and whose tag and seed are bytes.
-use Rattle.std.proofs.Common.{◌≡◌, ◌<◌, ◌^◌, ℕ, Bool, true, false, if◌then◌else◌, List, [], ◌∷◌, length, codes, Option, Some, None, option_map, refl, subst}
+use Rattle.run_lives.proofs.Words.{◌≡◌, ◌<◌, ◌^◌, ℕ, Bool, true, false, if◌then◌else◌, List, [], ◌∷◌, length, codes, Option, Some, None, option_map, refl, subst, Form, Replay, Brief, Wallet, Operator, Watcher, InitWallet, InitOperator, InitWatcher, HssInit, HssSign, Archive, InitsAreOfTheirRoles}
 use Rattle.std.specs.Prelude.{IfSome, ◌==◌}
 use Rattle.std.proofs.lemmas.Bool.{eqb-true}
 use Rattle.std.specs.Str.{bytes_eq}
@@ -8,12 +8,9 @@ use Rattle.plasma_base.proofs.HexLaws.{hex_text-hex_in}
 use Rattle.line_forms.specs.Tokens.{AreBytes, number_in, number_within_in, hex_of_in, only_if}
 use Rattle.line_forms.proofs.NumberLaws.{number_text-in}
 use Rattle.lms_sign.specs.declared.types.LmsTypes.{LmsTypes}
-use Rattle.run_words.specs.declared.form.Form.{Form}
-use Rattle.run_words.specs.declared.form.Form.TheVariants.{Replay, Brief, Wallet, Operator, Watcher, InitWallet, InitOperator, InitWatcher, HssInit, HssSign, Archive}
 use Rattle.run_words.specs.Forms.{alone, types_in, wallet_of, init_wallet, operator_of, init_operator, identity_in, init_form, make_form, verify_form, hss_init, hss_sign, hss_verify, hss_form, audit_form, form_named, form_of, IsSound}
 use Rattle.run_words.proofs.SoundLaws.{forms-sound}
 use Rattle.node_lives.proofs.Identities.{identities_are_of_their_roles}
-use Rattle.run_lives.specs.Calls.{InitsAreOfTheirRoles}
 
 -- 32 bytes
 abbrev Are32 : List ℕ → Type 0
