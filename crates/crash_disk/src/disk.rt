@@ -1,4 +1,4 @@
-ghost use Rattle.std.specs.Prelude.{◌≡◌, ℕ, ◌+◌, ◌^◌, ◌<◌, ◌≤◌, length, take, drop, Option, is_err, IfOk, OnOk, OnErr};
+ghost use Rattle.std.specs.Prelude.{◌≡◌, ℕ, ◌+◌, ◌^◌, ◌<◌, ◌≤◌, length, take, drop, Option, is_err, false, IfOk, OnOk, OnErr};
 ghost use Rattle.plasma_base.specs.Causes.{faults_after};
 ghost use Rattle.crash_disk.specs.Disk.{History, content, asks_length, reads, writes, syncs, FaultPlan, Room, HasRoom, Spends};
 ghost use Rattle.crash_disk.specs.Calls.{WhereTold, Called, IsStill};
@@ -68,12 +68,14 @@ pub trait Disk {
         ensures spent { Spends (left self.old) (left self.new) 0 };
 
     /// Takes the memory for so many further device calls, which write so many bytes in all, or answers
-    /// `NoMemory`. The room that is left stays. It is no device call.
+    /// `NoMemory`, which it never does where that room is left. The room that is left stays. It is no
+    /// device call.
     fn make_room(&mut self, calls: u64, bytes: u64) -> Result<(), NoMemory>
         ensures calls { OnOk result (calls ≤ (left self.new).calls) }
         ensures bytes { OnOk result (bytes ≤ (left self.new).bytes) }
         ensures calls_stay { (left self.old).calls ≤ (left self.new).calls }
         ensures bytes_stay { (left self.old).bytes ≤ (left self.new).bytes }
         ensures still { IsStill told plan faults self.old self.new }
-        ensures err { OnErr result (self.new ≡ self.old) };
+        ensures err { OnErr result (self.new ≡ self.old) }
+        ensures there { calls ≤ (left self.old).calls → bytes ≤ (left self.old).bytes → is_err result ≡ false };
 }

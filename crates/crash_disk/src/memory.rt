@@ -1,4 +1,4 @@
-ghost use Rattle.std.specs.Prelude.{◌≡◌, ◌+◌, ◌^◌, ◌<◌, ◌≤◌, [], length, take, drop, is_err, Some, None, IfOk, OnOk, OnErr};
+ghost use Rattle.std.specs.Prelude.{◌≡◌, ◌+◌, ◌^◌, ◌<◌, ◌≤◌, [], length, take, drop, is_err, false, Some, None, IfOk, OnOk, OnErr};
 ghost use Rattle.plasma_base.specs.Causes.{faults_after};
 ghost use Rattle.crash_disk.specs.Disk.{fresh_history, content, synced_content, asks_length, reads, writes, syncs, HasRoom};
 ghost use Rattle.crash_disk.specs.Outcomes.{image_after, HasPattern};
@@ -223,7 +223,11 @@ impl Disk for MemDisk {
     fn make_room(&mut self, calls: u64, bytes: u64) -> Result<(), NoMemory>
         ensures ok { OnOk result (self.new ≡ with_room calls bytes self.old) }
         ensures err { OnErr result (self.new ≡ self.old) }
+        ensures there { calls ≤ self.old.room.calls → bytes ≤ self.old.room.bytes → is_err result ≡ false }
     {
+        if calls <= self.log.room_calls() && bytes <= self.log.room_bytes() {
+            return Ok(());
+        }
         let more_calls = calls.max(self.log.room_calls()) as usize;
         let more_bytes = bytes.max(self.log.room_bytes()) as usize;
         self.unsynced.reserve(more_calls)?;
