@@ -7,7 +7,8 @@ use Rattle.plasma_outside.specs.declared.sink.SinkRefusal.TheVariants.{Failed, N
 use Rattle.plasma_outside.specs.Outside.{ends_after}
 
 -- an input: the bytes that are left, the length of each call's piece, the numbers of the calls that are to fail, how
--- many calls and faults there were, how many calls gave the end, and whether the last one failed
+-- many calls and faults there were, how many calls gave the end, whether the last one failed, and how many bytes it
+-- gave
 pub record MemInput : Type 0 where
   pub bytes : List ℕ
   pub pieces : List ℕ
@@ -16,6 +17,7 @@ pub record MemInput : Type 0 where
   pub faults : ℕ
   pub ends : ℕ
   pub failed_last : Bool
+  pub given_last : ℕ
 
 -- an output: the bytes that it has taken, the numbers of the calls that are to fail, and how many calls and faults
 -- there were
@@ -37,7 +39,12 @@ bytes_given input room = min (slice_index_or input.pieces input.calls room) (min
 -- the input after a take that failed: its bytes stay
 abbrev pub after_failed_take : MemInput → MemInput
 after_failed_take input =
-    record input { calls = counted input.calls; faults = counted input.faults; failed_last = true }
+    record input {
+      calls = counted input.calls;
+      faults = counted input.faults;
+      failed_last = true;
+      given_last = 0;
+    }
 
 -- the input after a take that gave so many bytes
 abbrev pub after_good_take : MemInput → ℕ → MemInput
@@ -47,6 +54,7 @@ after_good_take input n =
       bytes = drop n input.bytes;
       ends = ends_after input.ends (Ok n);
       failed_last = false;
+      given_last = n;
     }
 
 -- the input after a take into so much room

@@ -24,6 +24,11 @@ abbrev pub ends_after : ℕ → Result ℕ SourceFailed → ℕ
 ends_after ends (Ok n) = if n == 0 then counted ends else ends
 ends_after ends (Err e) = ends
 
+-- how many bytes a take gave
+abbrev pub given_by : Result ℕ SourceFailed → ℕ
+given_by (Ok n) = n
+given_by (Err e) = 0
+
 -- a put behind the bytes that were taken; an error leaves a beginning of its bytes, and what isn't told stays so
 abbrev pub Puts : {T E : Type 0} → Option (List ℕ) → Option (List ℕ) → Result T E → List ℕ → Type 0
 Puts None taken result bytes = taken ≡ None

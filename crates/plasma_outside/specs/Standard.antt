@@ -2,12 +2,14 @@
 use Rattle.std.specs.Prelude.{ℕ, Bool, List, take, Option, Result, MatchResult}
 use Rattle.std.specs.Io.KnownBytes.{Appends}
 
--- an input: its reader, how often that failed, how often it gave its end, and whether its last read failed
+-- an input: its reader, how often that failed, how often it gave its end, whether its last read failed, and how many
+-- bytes that gave
 pub record StdInput (R : Type 0) : Type 0 where
   pub reader : R
   pub faults : ℕ
   pub ends : ℕ
   pub failed_last : Bool
+  pub given_last : ℕ
 
 -- an output: its writer, and how often that failed
 pub record StdOutput (W : Type 0) : Type 0 where

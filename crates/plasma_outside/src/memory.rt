@@ -2,7 +2,7 @@ ghost use Rattle.std.specs.Prelude.{◌≡◌, ◌≤◌, ◌<◌, ◌+◌, ℕ,
 ghost use Rattle.std.specs.List.{All};
 ghost use Rattle.std.specs.Io.{ReadsAtMost};
 ghost use Rattle.plasma_base.specs.Causes.{faults_after};
-ghost use Rattle.plasma_outside.specs.Outside.{Takes, Puts, ends_after, is_failed};
+ghost use Rattle.plasma_outside.specs.Outside.{Takes, Puts, ends_after, given_by, is_failed};
 ghost use Rattle.plasma_outside.specs.Memory.{is_to_fail, bytes_given, after_take, after_put};
 
 use super::sink::{Sink, SinkRefusal};
@@ -39,6 +39,7 @@ pub struct MemSource {
     faults: u64,
     ends: u64,
     failed_last: bool,
+    given_last: usize,
 }
 
 impl Model for MemSource {
@@ -56,6 +57,7 @@ impl Model for MemSource {
       faults = s.faults;
       ends = s.ends;
       failed_last = s.failed_last;
+      given_last = s.given_last;
     } };
 
     ghost invariant = { λ s. (s.place ≤ length s.bytes.items) × All (λ piece. 1 ≤ piece) s.pieces.items };
@@ -75,6 +77,7 @@ impl MemSource {
           faults = 0;
           ends = 0;
           failed_last = false;
+          given_last = 0;
         } }
     {
         MemSource {
@@ -86,6 +89,7 @@ impl MemSource {
             faults: 0,
             ends: 0,
             failed_last: false,
+            given_last: 0,
         }
     }
 }
@@ -99,6 +103,8 @@ impl Source for MemSource {
 
     ghost failed_last = { λ input. input.failed_last };
 
+    ghost given_last = { λ input. input.given_last };
+
     fn take(&mut self, room: &mut [u8]) -> Result<usize, SourceFailed>
         requires { 0 < length room.old }
         ensures bound { ReadsAtMost result room.new }
@@ -106,6 +112,7 @@ impl Source for MemSource {
         ensures cause { self.new.faults ≡ faults_after self.old.faults (is_err result) }
         ensures end { self.new.ends ≡ ends_after self.old.ends result }
         ensures last { self.new.failed_last ≡ is_err result }
+        ensures given { self.new.given_last ≡ given_by result }
         ensures fails { is_err result ≡ is_to_fail self.old.fails self.old.calls }
         ensures count { IfOk result (λ n. n ≡ bytes_given self.old (length room.old)) }
         ensures after { self.new ≡ after_take self.old (length room.old) }
@@ -115,6 +122,7 @@ impl Source for MemSource {
         self.calls = self.calls.saturating_add(1);
         self.failed_last = fails;
         if fails {
+            self.given_last = 0;
             self.faults = self.faults.saturating_add(1);
             return Err(SourceFailed);
         }
@@ -122,6 +130,7 @@ impl Source for MemSource {
         let count = piece.min(room.len().min(rest.len()));
         room[..count].copy_from_slice(&rest[..count]);
         self.place += count;
+        self.given_last = count;
         if count == 0 {
             self.ends = self.ends.saturating_add(1);
         }

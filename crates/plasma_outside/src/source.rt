@@ -1,7 +1,7 @@
 ghost use Rattle.std.specs.Prelude.{◌≡◌, ◌<◌, ℕ, Bool, List, length, Option, is_err};
 ghost use Rattle.std.specs.Io.{ReadsAtMost};
 ghost use Rattle.plasma_base.specs.Causes.{faults_after};
-ghost use Rattle.plasma_outside.specs.Outside.{Takes, ends_after};
+ghost use Rattle.plasma_outside.specs.Outside.{Takes, ends_after, given_by};
 
 use thiserror::Error;
 
@@ -24,6 +24,9 @@ pub trait Source {
     /// Whether the last take failed.
     ghost failed_last: { Self → Bool };
 
+    /// How many bytes the last take gave: 0 where it gave the end or failed.
+    ghost given_last: { Self → ℕ };
+
     /// Takes the next bytes into a beginning of `room`, which isn't empty, and answers how many: 0
     /// only at the end of the input. `SourceFailed` takes nothing and counts one fault; where bytes
     /// or the end are answered, the count stays.
@@ -33,5 +36,6 @@ pub trait Source {
         ensures bytes { Takes (left self.old) (left self.new) result room.new }
         ensures cause { faults self.new ≡ faults_after (faults self.old) (is_err result) }
         ensures end { ends self.new ≡ ends_after (ends self.old) result }
-        ensures last { failed_last self.new ≡ is_err result };
+        ensures last { failed_last self.new ≡ is_err result }
+        ensures given { given_last self.new ≡ given_by result };
 }

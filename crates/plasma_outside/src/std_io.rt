@@ -2,7 +2,7 @@ ghost use Rattle.std.specs.Prelude.{◌≡◌, ◌≢◌, ◌<◌, false, length
 ghost use Rattle.std.specs.Io.{ReadsAtMost};
 ghost use Rattle.std.specs.Io.KnownBytes.{ReadConsumes};
 ghost use Rattle.plasma_base.specs.Causes.{faults_after};
-ghost use Rattle.plasma_outside.specs.Outside.{Takes, Puts, ends_after, is_failed};
+ghost use Rattle.plasma_outside.specs.Outside.{Takes, Puts, ends_after, given_by, is_failed};
 ghost use Rattle.plasma_outside.specs.Standard.{Writes};
 
 use super::sink::{Sink, SinkRefusal};
@@ -11,14 +11,15 @@ use std::io::{self, ErrorKind, Read, Write};
 use std::marker::Model;
 
 /// A source over any reader of std, which contracts see as its reader, its counts of faults and of
-/// ends, and whether its last read failed. As a source it tells nothing of its content. A read that
-/// was interrupted counts as a fault too.
+/// ends, whether its last read failed, and how many bytes that gave. As a source it tells nothing of
+/// its content. A read that was interrupted counts as a fault too.
 #[derive(Drop)]
 pub struct StdSource<R> {
     reader: R,
     faults: u64,
     ends: u64,
     failed_last: bool,
+    given_last: usize,
 }
 
 impl<R> Model for StdSource<R> {
@@ -26,19 +27,26 @@ impl<R> Model for StdSource<R> {
 
     ghost Value = { StdInput R };
 
-    ghost view = { λ s. record { reader = s.reader; faults = s.faults; ends = s.ends; failed_last = s.failed_last } };
+    ghost view = { λ s. record {
+      reader = s.reader;
+      faults = s.faults;
+      ends = s.ends;
+      failed_last = s.failed_last;
+      given_last = s.given_last;
+    } };
 }
 
 impl<R: Read> StdSource<R> {
     /// A source that hasn't failed yet, nor given its end.
     pub fn make(reader: R) -> StdSource<R>
-        ensures { result ≡ record { reader = reader; faults = 0; ends = 0; failed_last = false } }
+        ensures { result ≡ record { reader = reader; faults = 0; ends = 0; failed_last = false; given_last = 0 } }
     {
         StdSource {
             reader,
             faults: 0,
             ends: 0,
             failed_last: false,
+            given_last: 0,
         }
     }
 }
@@ -52,6 +60,8 @@ impl<R: Read> Source for StdSource<R> {
 
     ghost failed_last = { λ input. input.failed_last };
 
+    ghost given_last = { λ input. input.given_last };
+
     fn take(&mut self, room: &mut [u8]) -> Result<usize, SourceFailed>
         requires { 0 < length room.old }
         ensures bound { ReadsAtMost result room.new }
@@ -59,11 +69,13 @@ impl<R: Read> Source for StdSource<R> {
         ensures cause { self.new.faults ≡ faults_after self.old.faults (is_err result) }
         ensures end { self.new.ends ≡ ends_after self.old.ends result }
         ensures last { self.new.failed_last ≡ is_err result }
+        ensures given { self.new.given_last ≡ given_by result }
         ensures reader { ReadConsumes (R.remaining self.old.reader) (R.remaining self.new.reader) result room.new }
     {
         match self.reader.read(room) {
             Ok(count) => {
                 self.failed_last = false;
+                self.given_last = count;
                 if count == 0 {
                     self.ends = self.ends.saturating_add(1);
                 }
@@ -71,6 +83,7 @@ impl<R: Read> Source for StdSource<R> {
             }
             Err(_) => {
                 self.failed_last = true;
+                self.given_last = 0;
                 self.faults = self.faults.saturating_add(1);
                 Err(SourceFailed)
             }

@@ -1,5 +1,5 @@
 -- A stream on its way: what was taken is answered, and the answers are put.
-use Rattle.std.proofs.Common.{◌≡◌, ℕ, Bool, true, false, List, [], ◌++◌, Option, Result, inl, inr, refl, sym, ap, ◌∙◌, subst, append_assoc}
+use Rattle.std.proofs.Common.{◌≡◌, ℕ, Bool, true, false, List, [], ◌++◌, length, Option, Result, inl, inr, refl, sym, ap, ◌∙◌, subst, append_assoc}
 use Rattle.std.specs.Prelude.{IfOk, IfErr}
 use Rattle.std.proofs.lemmas.Bool.{false≢true}
 use Rattle.std.proofs.lemmas.List.{append-nil}
@@ -97,11 +97,11 @@ module _ {R C W : Type 0} (rules : Rules R C) (first : R) (Ran : W → R → Typ
     }
 
     -- without the sink, whatever it takes
-    broken : (takes_memory : Bool) (last : Option (List ℕ)) (bytes text' : List ℕ) (ended : Bool) (answerer' : W)
-        (why : Break) → Gave left last bytes ended
-        → BreaksOff rules first Ran Halted false ended bytes going.put text' why answerer'
-        → BrokeOff rules first Ran Halted takes_memory left last taken after text' why answerer'
-    broken takes_memory last bytes text' ended answerer' why gave breaks = record {
+    broken : (takes_memory : Bool) (given : ℕ) (last : Option (List ℕ)) (bytes text' : List ℕ) (ended : Bool)
+        (answerer' : W) (why : Break) → Gave left last bytes ended
+        → BreaksOff rules first Ran Halted false given ended bytes going.put text' why answerer'
+        → BrokeOff rules first Ran Halted takes_memory given left last taken after text' why answerer'
+    broken takes_memory given last bytes text' ended answerer' why gave breaks = record {
       bytes = bytes;
       ended = ended;
       put = going.put;
@@ -118,8 +118,8 @@ module _ {R C W : Type 0} (rules : Rules R C) (first : R) (Ran : W → R → Typ
       };
     }
       where
-        by : (why : Break) → IsBroken Ran Halted false ended bytes answerer' breaks.stream why
-            → IsBroken Ran Halted takes_memory ended bytes answerer' breaks.stream why
+        by : (why : Break) → IsBroken Ran Halted false given ended bytes answerer' breaks.stream why
+            → IsBroken Ran Halted takes_memory given ended bytes answerer' breaks.stream why
         by WriteFault is = is
         by FailedBreak is = is
         by NoMemoryBreak (inl (ran, inl wrong)) = absurd (false≢true wrong)
@@ -147,15 +147,18 @@ module _ {R C W : Type 0} (rules : Rules R C) (first : R) (Ran : W → R → Typ
           → IfOk result (λ ending. EndsAs r first Ran Halted true bytes put text' ending answerer')) same ends
           first going.bytes going.put going.reads)
 
-      pub going-breaks : (takes_memory : Bool) → ((first : R) (bytes put : List ℕ)
+      pub going-breaks : (takes_memory : Bool) (given : ℕ) → given ≡ 0 → ((first : R) (bytes put : List ℕ)
           → Reads rules' first Ran bytes put text line n start answerer
-          → IfErr result (λ why. BreaksOff rules' first Ran Halted false true bytes put text' why answerer'))
-          → IfErr result (λ why. BrokeOff rules first Ran Halted takes_memory left last taken after text' why answerer')
-      going-breaks takes_memory breaks =
+          → IfErr result (λ why. BreaksOff rules' first Ran Halted false 0 true bytes put text' why answerer'))
+          → IfErr result
+          (λ why. BrokeOff rules first Ran Halted takes_memory given left last taken after text' why answerer')
+      going-breaks takes_memory given none breaks =
           if-err _ _ result
-          (λ why. broken takes_memory last going.bytes text' true answerer' why (gave-last last true gave))
+          (λ why is. broken takes_memory given last going.bytes text' true answerer' why (gave-last last true gave)
+          (subst (λ m. BreaksOff rules first Ran Halted false m true going.bytes going.put text' why answerer')
+          (sym none) is))
           (subst (λ r. (first : R) (bytes put : List ℕ) → Reads r first Ran bytes put text line n start answerer
-          → IfErr result (λ why. BreaksOff r first Ran Halted false true bytes put text' why answerer')) same breaks
+          → IfErr result (λ why. BreaksOff r first Ran Halted false 0 true bytes put text' why answerer')) same breaks
           first going.bytes going.put going.reads)
 
     -- a line of what was taken halted the stream
@@ -163,11 +166,12 @@ module _ {R C W : Type 0} (rules : Rules R C) (first : R) (Ran : W → R → Typ
         (rules' : Rules R C) (result : Result (Ending C) Break) (is : result ≡ halted_at n' halt)
         (same : rules' ≡ rules) (gave : Gave later last bytes false)
         (halts : (first : R) (before put : List ℕ) → Reads rules' first Ran before put text line n start answerer
-        → HaltsWith rules' first Ran Halted false (before ++ bytes) put text' n' answerer' halt) where
-      halted : HaltsWith rules first Ran Halted false (going.bytes ++ bytes) going.put text' n' answerer' halt
+        → HaltsWith rules' first Ran Halted (length bytes) false (before ++ bytes) put text' n' answerer' halt) where
+      halted :
+          HaltsWith rules first Ran Halted (length bytes) false (going.bytes ++ bytes) going.put text' n' answerer' halt
       halted =
           subst (λ r. (first : R) (before put : List ℕ) → Reads r first Ran before put text line n start answerer
-          → HaltsWith r first Ran Halted false (before ++ bytes) put text' n' answerer' halt) same halts
+          → HaltsWith r first Ran Halted (length bytes) false (before ++ bytes) put text' n' answerer' halt) same halts
           first going.bytes going.put going.reads
 
       pub halt-ends :
@@ -176,41 +180,45 @@ module _ {R C W : Type 0} (rules : Rules R C) (first : R) (Ran : W → R → Typ
           if-ok _ _ result
           (λ ending. answers last (going.bytes ++ bytes) text' false answerer' ending
           (gave-more left later last going.bytes bytes false going.gave gave))
-          (halts-end rules first Ran Halted false (going.bytes ++ bytes) going.put text' n' answerer' halt result is
-          halted)
+          (halts-end rules first Ran Halted (length bytes) false (going.bytes ++ bytes) going.put text' n' answerer'
+          halt result is halted)
 
-      pub halt-breaks : (takes_memory : Bool)
-          → IfErr result (λ why. BrokeOff rules first Ran Halted takes_memory left last taken after text' why answerer')
-      halt-breaks takes_memory =
+      pub halt-breaks : (takes_memory : Bool) (given : ℕ) → given ≡ length bytes
+          → IfErr result
+          (λ why. BrokeOff rules first Ran Halted takes_memory given left last taken after text' why answerer')
+      halt-breaks takes_memory given many =
           if-err _ _ result
-          (λ why. broken takes_memory last (going.bytes ++ bytes) text' false answerer' why
+          (λ why. broken takes_memory given last (going.bytes ++ bytes) text' false answerer' why
           (gave-more left later last going.bytes bytes false going.gave gave))
-          (halts-break rules first Ran Halted false (going.bytes ++ bytes) going.put text' n' answerer' halt result is
-          halted)
+          (halts-break rules first Ran Halted given false (going.bytes ++ bytes) going.put text' n' answerer' halt
+          result is
+          (subst (λ m. HaltsWith rules first Ran Halted m false (going.bytes ++ bytes) going.put text' n' answerer'
+          halt) (sym many) halted))
 
     -- the answers to what was taken were not all put
     pub put-breaks : (last : Option (List ℕ)) (bytes text' line' : List ℕ) (n' start' : ℕ) (answerer' : W)
         → Gave later last bytes false
         → Reads rules first Ran (going.bytes ++ bytes) going.put text' line' n' start' answerer'
         → (next : Option (List ℕ)) (refusal : SinkRefusal) (text'' : List ℕ) → WroteFront after next text'
-        → (takes_memory : Bool) → (refusal ≡ SinkNoMemory → takes_memory ≡ true)
-        → BrokeOff rules first Ran Halted takes_memory left last taken next text'' (break_of refusal) answerer'
-    put-breaks last bytes text' line' n' start' answerer' gave reads next refusal text'' front takes_memory takes = record {
-      bytes = going.bytes ++ bytes;
-      ended = false;
-      put = going.put ++ front.front;
-      gave = gave-more left later last going.bytes bytes false going.gave gave;
-      wrote = wrote-more taken after next going.put front.front going.wrote front.wrote;
-      breaks = by_refusal refusal takes;
-    }
+        → (takes_memory : Bool) (given : ℕ) → (refusal ≡ SinkNoMemory → takes_memory ≡ true)
+        → BrokeOff rules first Ran Halted takes_memory given left last taken next text'' (break_of refusal) answerer'
+    put-breaks last bytes text' line' n' start' answerer' gave reads next refusal text'' front memory given takes =
+        record {
+          bytes = going.bytes ++ bytes;
+          ended = false;
+          put = going.put ++ front.front;
+          gave = gave-more left later last going.bytes bytes false going.gave gave;
+          wrote = wrote-more taken after next going.put front.front going.wrote front.wrote;
+          breaks = by_refusal refusal takes;
+        }
       where
         told : (going.put ++ front.front) ++ front.back ≡ reads.stream.text
         told =
             append_assoc going.put front.front front.back ∙ ap (λ t. going.put ++ t) front.whole ∙ reads.told
 
-        by_refusal : (refusal : SinkRefusal) → (refusal ≡ SinkNoMemory → takes_memory ≡ true)
-            → BreaksOff rules first Ran Halted takes_memory false (going.bytes ++ bytes) (going.put ++ front.front) text''
-            (break_of refusal) answerer'
+        by_refusal : (refusal : SinkRefusal) → (refusal ≡ SinkNoMemory → memory ≡ true)
+            → BreaksOff rules first Ran Halted memory given false (going.bytes ++ bytes)
+            (going.put ++ front.front) text'' (break_of refusal) answerer'
         by_refusal SinkFailed takes = record {
           front = reads.front;
           rest = line';

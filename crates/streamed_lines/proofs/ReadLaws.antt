@@ -1,6 +1,6 @@
 -- What was read of an input, from line to line and from take to take.
 use Rattle.std.proofs.Common.{◌≡◌, ℕ, ◌+◌, ◌<◌, ◌≤◌, true, false, min, nat_lt, if◌then◌else◌, List, [], ◌++◌, length, take, drop, Some, Result, Ok, Err, refl, sym, ap, ◌∙◌, subst, arith, append_assoc, position}
-use Rattle.std.specs.Prelude.{OnOk}
+use Rattle.std.specs.Prelude.{◌≢◌, OnOk}
 use Rattle.std.proofs.lemmas.List.{append-nil, length-append, length-take, length-drop, take-append-drop}
 use Rattle.streamed_lines.specs.declared.TheConstants.{MOST_LINES, MOST_LINE_BYTES, MOST_INPUT_BYTES}
 use Rattle.streamed_lines.specs.declared.ending.Halt.{Halt}
@@ -96,6 +96,7 @@ pub record OnTheWay {R C W : Type 0} (rules : Rules R C) (Ran : W → R → Type
   pub starts : start ≤ MOST_INPUT_BYTES
   pub size : start + length line + length rest ≡ start₀ + length line₀ + length taken
   pub few : start₀ + length line₀ + length taken < limit_of n start + room
+  pub began : line ≢ [] → start < start₀ + length line₀
 
 module _ {R C W : Type 0} (rules : Rules R C) (Ran : W → R → Type 0) (taken rest text₀ line₀ : List ℕ) (n₀ start₀ : ℕ)
     (answerer₀ : W) (text line : List ℕ) (n start : ℕ) (answerer : W)
@@ -139,6 +140,7 @@ module _ {R C W : Type 0} (rules : Rules R C) (Ran : W → R → Type 0) (taken 
         starts = within;
         size = omega (arith, all);
         few = omega (arith, all, short, above);
+        began = λ some. absurd (some refl);
       }
 
   -- what is left of what was taken is kept
@@ -169,8 +171,8 @@ module _ {R C W : Type 0} (rules : Rules R C) (Ran : W → R → Type 0) (taken 
         → ((stream : Stream R) → Ran answerer stream.run → n ≡ next_number stream
         → StopsAt rules' start stream (line ++ take (i + 1) rest) halt)
         → ((stream : Stream R) → Ran answerer stream.run → n ≡ next_number stream
-        → IsHalted Ran Halted start line answerer' stream (line ++ take (i + 1) rest) halt)
-        → HaltsWith rules first Ran Halted false (bytes ++ taken) put text' n' answerer' halt
+        → IsHalted Ran Halted start line (take (i + 1) rest) answerer' stream (line ++ take (i + 1) rest) halt)
+        → HaltsWith rules first Ran Halted (length taken) false (bytes ++ taken) put text' n' answerer' halt
     way-stops i found low bound text' n' answerer' halt rules' same untold number at halted =
         let here = way.reads first bytes put begun in
         let own = take (i + 1) rest in
@@ -180,24 +182,42 @@ module _ {R C W : Type 0} (rules : Rules R C) (Ran : W → R → Type 0) (taken 
         let all : (bytes ++ way.done) ++ (own ++ later) ≡ bytes ++ taken =
         ap (λ r. (bytes ++ way.done) ++ r) (take-append-drop (i + 1) rest) ∙ append_assoc bytes way.done rest
         ∙ ap (λ t. bytes ++ t) (sym way.split) in
-        subst (λ t. HaltsWith rules first Ran Halted false (bytes ++ taken) put t n' answerer' halt) (sym untold)
-        (subst (λ m. HaltsWith rules first Ran Halted false (bytes ++ taken) put text m answerer' halt) (sym number)
-        (subst (λ b. HaltsWith rules first Ran Halted false b put text n answerer' halt) all
-        (line-stops rules first Ran Halted (bytes ++ way.done) put text line n start answerer here answerer' own later
-        halt way.plain (feed-some rest i found) short
+        let some : 0 < length taken = omega (arith, low, ap length way.split, length-append way.done rest) in
+        let before : line ≢ [] → start + length taken < length ((bytes ++ way.done) ++ (own ++ later)) =
+        λ kept. let began = way.began kept in omega (
+          arith,
+          began,
+          way.size,
+          ap length all,
+          ap length here.whole,
+          length-append here.front line,
+          here.size,
+          ap length way.split,
+          length-append way.done rest,
+          length-append bytes taken,
+          length-append bytes way.done,
+        ) in
+        subst (λ t. HaltsWith rules first Ran Halted (length taken) false (bytes ++ taken) put t n' answerer' halt)
+        (sym untold)
+        (subst (λ m. HaltsWith rules first Ran Halted (length taken) false (bytes ++ taken) put text m answerer' halt)
+        (sym number)
+        (subst (λ b. HaltsWith rules first Ran Halted (length taken) false b put text n answerer' halt) all
+        (line-stops rules first Ran Halted (bytes ++ way.done) put text line n start answerer here (length taken)
+        answerer' own later halt way.plain (feed-some rest i found) short some before
         (subst (λ r. StopsAt r start here.stream (line ++ own) halt) same (at here.stream here.ran here.number))
         (halted here.stream here.ran here.number))))
 
-    pub way-ends : HasNoFeed (line ++ rest) → (n' : ℕ) (halt : Halt C) → n' ≡ n
+    pub way-ends : 0 < length taken → HasNoFeed (line ++ rest) → (n' : ℕ) (halt : Halt C) → n' ≡ n
         → StopsKept n start (line ++ rest) halt
-        → HaltsWith rules first Ran Halted false (bytes ++ taken) put text n' answerer halt
-    way-ends plain n' halt number at =
+        → HaltsWith rules first Ran Halted (length taken) false (bytes ++ taken) put text n' answerer halt
+    way-ends some plain n' halt number at =
         let here = way-kept first bytes put begun in
         let long : length (bytes ++ taken) ≡ start + length line + length rest =
         ap length here.whole
         ∙ omega (arith, length-append here.front (line ++ rest), length-append line rest, here.size) in
         let size = way.size in
         let few = way.few in
-        subst (λ m. HaltsWith rules first Ran Halted false (bytes ++ taken) put text m answerer halt) (sym number)
-        (kept-stops rules first Ran Halted (bytes ++ taken) put text (line ++ rest) n start answerer here halt plain
-        (omega (arith, long, size, few)) at)
+        subst (λ m. HaltsWith rules first Ran Halted (length taken) false (bytes ++ taken) put text m answerer halt)
+        (sym number)
+        (kept-stops rules first Ran Halted (bytes ++ taken) put text (line ++ rest) n start answerer here (length taken)
+        halt plain (omega (arith, long, size, few)) some at)

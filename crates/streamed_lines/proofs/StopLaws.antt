@@ -16,7 +16,7 @@ use Rattle.streamed_lines.specs.declared.ending.Break.TheVariants.{NoMemory as N
 use Rattle.streamed_lines.specs.Lines.{lines_in, is_whole, text_of, is_too_long, limit_of, HasNoFeed, EndsWithItsFeed}
 use Rattle.streamed_lines.specs.Streams.{Rules, Stream, next_number, ending_at, with_answer, end_of_input, line_stream, stream_of}
 use Rattle.streamed_lines.specs.Bounds.{room, line_at, start_of, end_of, TakesFew}
-use Rattle.streamed_lines.specs.Reading.{halted_at, next_text, DoesLine, Gathers, StopsAt, IsKept, StopsKept, RunsTo, Reads, HaltedAt, IsHalted, IsLeft, HaltsNext, IsBroken, EndsAs, BreaksOff, HaltsWith}
+use Rattle.streamed_lines.specs.Reading.{halted_at, next_text, DoesLine, Gathers, StopsAt, IsKept, StopsKept, RunsTo, Reads, HaltedAt, IsHalted, IsLeft, HaltsNext, IsKeptNext, IsBroken, EndsAs, BreaksOff, HaltsWith}
 use Rattle.streamed_lines.proofs.LineLaws.{plain-open, feed-append, whole-feed, text-kept, lines_in-feed, lines_in-unfinished, kept-fits}
 use Rattle.streamed_lines.proofs.StreamLaws.{stream-stops, stream-ends, stream-answers, stream-over, waits, too-long}
 
@@ -174,12 +174,12 @@ few-end {C = C} rules bytes stream lines is count size =
 
 -- where it is left by a line that stops the stream
 left-by : {R C W : Type 0} (Ran : W → R → Type 0) (Halted : W → R → List ℕ → Halt C → Type 0) (answerer : W)
-    (stream : Stream R) (kept line : List ℕ) (n start : ℕ) (stop : Stop C)
-    → IsHalted Ran Halted start kept answerer stream line (Stops stop)
+    (stream : Stream R) (kept rest line : List ℕ) (n start : ℕ) (stop : Stop C)
+    → IsHalted Ran Halted start kept rest answerer stream line (Stops stop)
     → IsLeft Ran Halted answerer stream.run (text_of line) (ending_at n stop)
-left-by Ran Halted answerer stream kept line n start BadLineStop halted = inr halted
-left-by Ran Halted answerer stream kept line n start TooLongStop halted = halted
-left-by Ran Halted answerer stream kept line n start (Ends cause) halted = halted
+left-by Ran Halted answerer stream kept rest line n start BadLineStop halted = inr halted
+left-by Ran Halted answerer stream kept rest line n start TooLongStop halted = halted
+left-by Ran Halted answerer stream kept rest line n start (Ends cause) halted = halted
 
 -- where it is left at the end of an input
 left-over : {R C W : Type 0} (rules : Rules R C) (Ran : W → R → Type 0) (Halted : W → R → List ℕ → Halt C → Type 0)
@@ -198,10 +198,10 @@ module _ {R C W : Type 0} (rules : Rules R C) (first : R) (Ran : W → R → Typ
     (bytes put text line : List ℕ) (n start : ℕ) (answerer : W)
     (reads : Reads rules first Ran bytes put text line n start answerer) where
   -- the line isn't answered, since the answerer failed or memory ran out
-  breaks-failed : (ended : Bool) (all : List ℕ) (answerer' : W) (rest : List ℕ) → all ≡ reads.front ++ rest
+  breaks-failed : (given : ℕ) (ended : Bool) (all : List ℕ) (answerer' : W) (rest : List ℕ) → all ≡ reads.front ++ rest
       → HaltsNext Ran Halted ended all answerer' reads.stream Failed
-      → HaltsWith rules first Ran Halted ended all put text n answerer' Failed
-  breaks-failed ended all answerer' rest whole halted = record {
+      → HaltsWith rules first Ran Halted given ended all put text n answerer' Failed
+  breaks-failed given ended all answerer' rest whole halted = record {
     front = reads.front;
     rest = rest;
     stream = reads.stream;
@@ -211,10 +211,10 @@ module _ {R C W : Type 0} (rules : Rules R C) (first : R) (Ran : W → R → Typ
     broken = halted;
   }
 
-  breaks-memory : (ended : Bool) (all : List ℕ) (answerer' : W) (rest : List ℕ) → all ≡ reads.front ++ rest
-      → IsBroken Ran Halted false ended all answerer' reads.stream NoMemoryBreak
-      → HaltsWith rules first Ran Halted ended all put text n answerer' NoMemory
-  breaks-memory ended all answerer' rest whole halted = record {
+  breaks-memory : (given : ℕ) (ended : Bool) (all : List ℕ) (answerer' : W) (rest : List ℕ) → all ≡ reads.front ++ rest
+      → IsBroken Ran Halted false given ended all answerer' reads.stream NoMemoryBreak
+      → HaltsWith rules first Ran Halted given ended all put text n answerer' NoMemory
+  breaks-memory given ended all answerer' rest whole halted = record {
     front = reads.front;
     rest = rest;
     stream = reads.stream;
@@ -238,12 +238,38 @@ module _ {R C W : Type 0} (rules : Rules R C) (first : R) (Ran : W → R → Typ
       (feed-append line own plain ends))
       ∙ ap (λ b. next_text b reads.stream) (sym (same-bytes own rest)) ∙ none)
 
-  kept-last : HasNoFeed line → line ≢ [] → next_text bytes reads.stream ≢ []
-  kept-last plain some none =
-      some
-      (sym (ap (λ (t : Bool). if t then take (length line - 1) line else line) (plain-open line plain))
-      ∙ sym (next-last rules first reads.front line reads.stream n reads.runs reads.number plain some)
-      ∙ ap (λ b. next_text b reads.stream) (sym reads.whole) ∙ none)
+  -- the next line is kept that began in front of what was taken last
+  kept-front : (given : ℕ) (own rest : List ℕ) → HasNoFeed line → EndsWithItsFeed own → line ≢ [] → 0 < given
+      → start + given < length (bytes ++ (own ++ rest)) → IsKeptNext given (bytes ++ (own ++ rest)) reads.stream
+  kept-front given own rest plain ends some more before =
+      let all = line ++ own in
+      let begins : start_of (bytes ++ (own ++ rest)) (next_number reads.stream) ≡ length reads.front =
+      ap (start_of (bytes ++ (own ++ rest))) (sym reads.number) ∙ ap (λ b. start_of b n) (same-bytes own rest)
+      ∙ start-is rules first reads.front all reads.stream n reads.runs reads.number (reads.front ++ (all ++ rest))
+      (lines_in rest)
+      (reads.runs.cuts (all ++ rest)
+      ∙ ap (λ ls. reads.runs.cut ++ ls) (lines_in-feed all rest (feed-append line own plain ends))) in
+      record {
+        some = kept-whole own rest plain ends some;
+        more = more;
+        parted = inl (omega (arith, before, begins, reads.size));
+      }
+
+  -- so is one that isn't whole
+  kept-open : (given : ℕ) → HasNoFeed line → line ≢ [] → 0 < given → IsKeptNext given bytes reads.stream
+  kept-open given plain some more =
+      let at : line_at bytes (next_number reads.stream) ≡ line =
+      ap (line_at bytes) (sym reads.number) ∙ ap (λ b. line_at b n) reads.whole
+      ∙ line-is rules first reads.front line reads.stream n reads.runs reads.number (reads.front ++ line) []
+      (reads.runs.cuts line ∙ ap (λ ls. reads.runs.cut ++ ls) (lines_in-unfinished line some plain)) in
+      record {
+        some =
+            λ none. some
+            (sym (ap (λ (t : Bool). if t then take (length line - 1) line else line) (plain-open line plain))
+            ∙ ap text_of (sym at) ∙ none);
+        more = more;
+        parted = inr (ap is_whole at ∙ plain-open line plain);
+      }
 
   -- it halted at the line that ends there, which is the next one
   halted-whole : (answerer' : W) (own rest : List ℕ) (halt : Halt C) → HasNoFeed line → EndsWithItsFeed own
@@ -281,25 +307,27 @@ module _ {R C W : Type 0} (rules : Rules R C) (first : R) (Ran : W → R → Typ
       })
 
   -- a line with its line feed
-  pub line-stops : (answerer' : W) (own rest : List ℕ) (halt : Halt C) → HasNoFeed line → EndsWithItsFeed own
-      → length rest < room → StopsAt rules start reads.stream (line ++ own) halt
-      → IsHalted Ran Halted start line answerer' reads.stream (line ++ own) halt
-      → HaltsWith rules first Ran Halted false (bytes ++ (own ++ rest)) put text n answerer' halt
-  line-stops answerer' own rest Failed plain ends short at halted =
-      breaks-failed false (bytes ++ (own ++ rest)) answerer' ((line ++ own) ++ rest) (same-bytes own rest)
+  pub line-stops : (given : ℕ) (answerer' : W) (own rest : List ℕ) (halt : Halt C) → HasNoFeed line
+      → EndsWithItsFeed own → length rest < room → 0 < given
+      → (line ≢ [] → start + given < length (bytes ++ (own ++ rest)))
+      → StopsAt rules start reads.stream (line ++ own) halt
+      → IsHalted Ran Halted start line own answerer' reads.stream (line ++ own) halt
+      → HaltsWith rules first Ran Halted given false (bytes ++ (own ++ rest)) put text n answerer' halt
+  line-stops given answerer' own rest Failed plain ends short more before at halted =
+      breaks-failed given false (bytes ++ (own ++ rest)) answerer' ((line ++ own) ++ rest) (same-bytes own rest)
       (halted-whole answerer' own rest Failed plain ends halted)
-  line-stops answerer' own rest NoMemory plain ends short at halted =
-      breaks-memory false (bytes ++ (own ++ rest)) answerer' ((line ++ own) ++ rest) (same-bytes own rest)
+  line-stops given answerer' own rest NoMemory plain ends short more before at halted =
+      breaks-memory given false (bytes ++ (own ++ rest)) answerer' ((line ++ own) ++ rest) (same-bytes own rest)
       (elim halted [
-        | inl kept ↦ inl (kept.0, inr (kept-whole own rest plain ends kept.1))
+        | inl kept ↦ inl (kept.0, inr (kept-front given own rest plain ends kept.1 more (before kept.1)))
         | inr asked ↦ inr (halted-whole answerer' own rest NoMemory plain ends asked)
       ])
-  line-stops answerer' own rest (Stops stop) plain ends short at halted =
+  line-stops given answerer' own rest (Stops stop) plain ends short more before at halted =
       whole-stop answerer' own rest (ending_at n stop) plain ends
       (subst (λ m. DoesLine rules start reads.stream (line ++ own) (Err (ending_at m stop))) (sym reads.number) at)
       (few-feed rules first reads.front (line ++ own) reads.stream n reads.runs reads.number rest stop
       (feed-append line own plain ends) short)
-      (left-by Ran Halted answerer' reads.stream line (line ++ own) n start stop halted)
+      (left-by Ran Halted answerer' reads.stream line own (line ++ own) n start stop halted)
 
   -- what is kept of a line is fewer than a room behind its limit
   kept-few : IsKept n start line → length bytes < limit_of n start + room
@@ -309,13 +337,14 @@ module _ {R C W : Type 0} (rules : Rules R C) (first : R) (Ran : W → R → Typ
       let low = kept.fits in omega (arith, long, low)
 
   -- what is there of a line already passes a limit
-  pub kept-stops : (halt : Halt C) → HasNoFeed line → length bytes < limit_of n start + room
-      → StopsKept n start line halt → HaltsWith rules first Ran Halted false bytes put text n answerer halt
-  kept-stops Failed plain few never = absurd never
-  kept-stops NoMemory plain few at = breaks-memory false bytes answerer line reads.whole (inl (reads.ran, inr (kept-last plain at)))
-  kept-stops (Stops BadLineStop) plain few never = absurd never
-  kept-stops (Stops (Ends cause)) plain few never = absurd never
-  kept-stops (Stops TooLongStop) plain few at =
+  pub kept-stops : (given : ℕ) (halt : Halt C) → HasNoFeed line → length bytes < limit_of n start + room → 0 < given
+      → StopsKept n start line halt → HaltsWith rules first Ran Halted given false bytes put text n answerer halt
+  kept-stops given Failed plain few more never = absurd never
+  kept-stops given NoMemory plain few more at =
+      breaks-memory given false bytes answerer line reads.whole (inl (reads.ran, inr (kept-open given plain at more)))
+  kept-stops given (Stops BadLineStop) plain few more never = absurd never
+  kept-stops given (Stops (Ends cause)) plain few more never = absurd never
+  kept-stops given (Stops TooLongStop) plain few more at =
       let long : is_too_long (next_number reads.stream) (length reads.front) line ≡ true =
       subst (λ k. is_too_long k (length reads.front) line ≡ true) reads.number
       (subst (λ k. is_too_long n k line ≡ true) reads.size at.1)
@@ -368,14 +397,14 @@ module _ {R C W : Type 0} (rules : Rules R C) (first : R) (Ran : W → R → Typ
 
   last-halts : (answerer' : W) (halt : Halt C) → IsKept n start line → line ≢ []
       → StopsAt rules start reads.stream line halt
-      → IsHalted Ran Halted start line answerer' reads.stream line halt
-      → HaltsWith rules first Ran Halted true bytes put text n answerer' halt
+      → IsHalted Ran Halted start line [] answerer' reads.stream line halt
+      → HaltsWith rules first Ran Halted 0 true bytes put text n answerer' halt
   last-halts answerer' Failed kept some at halted =
-      breaks-failed true bytes answerer' line reads.whole (halted-last answerer' Failed kept.plain some halted)
+      breaks-failed 0 true bytes answerer' line reads.whole (halted-last answerer' Failed kept.plain some halted)
   last-halts answerer' NoMemory kept some at halted =
-      breaks-memory true bytes answerer' line reads.whole
+      breaks-memory 0 true bytes answerer' line reads.whole
       (elim halted [
-        | inl ran ↦ inl (ran.0, inr (kept-last kept.plain some))
+        | inl wrong ↦ absurd (wrong.2 refl)
         | inr asked ↦ inr (halted-last answerer' NoMemory kept.plain some asked)
       ])
   last-halts answerer' (Stops stop) kept some at halted =
@@ -384,18 +413,18 @@ module _ {R C W : Type 0} (rules : Rules R C) (first : R) (Ran : W → R → Typ
       (few-unfinished rules first reads.front line reads.stream n reads.runs reads.number stop kept.plain some
       (subst (λ b. length b < limit_of n (length reads.front) + room) reads.whole
       (subst (λ k. length bytes < limit_of n k + room) reads.size (kept-few kept))))
-      (left-by Ran Halted answerer' reads.stream line line n start stop halted)
+      (left-by Ran Halted answerer' reads.stream line [] line n start stop halted)
 
   pub last-stops : (text' : List ℕ) (n' : ℕ) (answerer' : W) (halt : Halt C) → text' ≡ text → n' ≡ n
       → IsKept n start line → line ≢ [] → StopsAt rules start reads.stream (line ++ []) halt
-      → IsHalted Ran Halted start line answerer' reads.stream (line ++ []) halt
-      → HaltsWith rules first Ran Halted true bytes put text' n' answerer' halt
+      → IsHalted Ran Halted start line [] answerer' reads.stream (line ++ []) halt
+      → HaltsWith rules first Ran Halted 0 true bytes put text' n' answerer' halt
   last-stops text' n' answerer' halt untold same kept some at halted =
-      subst (λ t. HaltsWith rules first Ran Halted true bytes put t n' answerer' halt) (sym untold)
-      (subst (λ m. HaltsWith rules first Ran Halted true bytes put text m answerer' halt) (sym same)
+      subst (λ t. HaltsWith rules first Ran Halted 0 true bytes put t n' answerer' halt) (sym untold)
+      (subst (λ m. HaltsWith rules first Ran Halted 0 true bytes put text m answerer' halt) (sym same)
       (last-halts answerer' halt kept some
       (subst (λ l. StopsAt rules start reads.stream l halt) (append-nil line) at)
-      (subst (λ l. IsHalted Ran Halted start line answerer' reads.stream l halt) (append-nil line) halted)))
+      (subst (λ l. IsHalted Ran Halted start line [] answerer' reads.stream l halt) (append-nil line) halted)))
 
   -- the last line was answered, and the input ends behind it
   pub last-answered : (text' : List ℕ) (n' : ℕ) (answerer' : W) (ending : Ending C) (rules' : Rules R C)
@@ -483,29 +512,30 @@ module _ {R C W : Type 0} (rules : Rules R C) (first : R) (Ran : W → R → Typ
 -- ---- what a line that isn't answered comes to
 
 module _ {R C W : Type 0} (rules : Rules R C) (first : R) (Ran : W → R → Type 0) (Halted : W → R → List ℕ → Halt C → Type 0)
-    (ended : Bool) (bytes put text : List ℕ) (n : ℕ) (answerer : W) where
+    (given : ℕ) (ended : Bool) (bytes put text : List ℕ) (n : ℕ) (answerer : W) where
   pub halts-end : (halt : Halt C) (result : Result (Ending C) Break) → result ≡ halted_at n halt
-      → HaltsWith rules first Ran Halted ended bytes put text n answerer halt
+      → HaltsWith rules first Ran Halted given ended bytes put text n answerer halt
       → IfOk result (λ ending. EndsAs rules first Ran Halted ended bytes put text ending answerer)
   halts-end halt result is halts =
       subst (λ r. IfOk r (λ ending. EndsAs rules first Ran Halted ended bytes put text ending answerer)) (sym is)
       (by_halt halt halts)
     where
-      by_halt : (halt : Halt C) → HaltsWith rules first Ran Halted ended bytes put text n answerer halt
+      by_halt : (halt : Halt C) → HaltsWith rules first Ran Halted given ended bytes put text n answerer halt
           → IfOk (halted_at n halt) (λ ending. EndsAs rules first Ran Halted ended bytes put text ending answerer)
       by_halt (Stops stop) halts = halts
       by_halt Failed halts = tt
       by_halt NoMemory halts = tt
 
   pub halts-break : (halt : Halt C) (result : Result (Ending C) Break) → result ≡ halted_at n halt
-      → HaltsWith rules first Ran Halted ended bytes put text n answerer halt
-      → IfErr result (λ why. BreaksOff rules first Ran Halted false ended bytes put text why answerer)
+      → HaltsWith rules first Ran Halted given ended bytes put text n answerer halt
+      → IfErr result (λ why. BreaksOff rules first Ran Halted false given ended bytes put text why answerer)
   halts-break halt result is halts =
-      subst (λ r. IfErr r (λ why. BreaksOff rules first Ran Halted false ended bytes put text why answerer)) (sym is)
-      (by_halt halt halts)
+      subst (λ r. IfErr r (λ why. BreaksOff rules first Ran Halted false given ended bytes put text why answerer))
+      (sym is) (by_halt halt halts)
     where
-      by_halt : (halt : Halt C) → HaltsWith rules first Ran Halted ended bytes put text n answerer halt
-          → IfErr (halted_at n halt) (λ why. BreaksOff rules first Ran Halted false ended bytes put text why answerer)
+      by_halt : (halt : Halt C) → HaltsWith rules first Ran Halted given ended bytes put text n answerer halt
+          → IfErr (halted_at n halt)
+          (λ why. BreaksOff rules first Ran Halted false given ended bytes put text why answerer)
       by_halt (Stops stop) halts = tt
       by_halt Failed halts = halts
       by_halt NoMemory halts = halts

@@ -1,5 +1,5 @@
 -- A stream goes on from line to line.
-use Rattle.std.proofs.Common.{◌≡◌, ℕ, ◌+◌, ◌&&◌, ◌||◌, not, Bool, true, false, List, [], ◌∷◌, ◌++◌, length, Result, Ok, Err, refl, sym, ap, ◌∙◌, subst, arith, append_assoc}
+use Rattle.std.proofs.Common.{◌≡◌, ℕ, ◌+◌, ◌&&◌, ◌||◌, not, Bool, true, false, List, [], ◌∷◌, ◌++◌, length, Result, Ok, Err, inr, refl, sym, ap, ◌∙◌, subst, arith, append_assoc}
 use Rattle.std.specs.Prelude.{IfOk, IfErr, IsErrAnd}
 use Rattle.std.proofs.lemmas.Bool.{true≢false}
 use Rattle.std.proofs.lemmas.List.{length-append}
@@ -7,11 +7,12 @@ use Rattle.std.proofs.lemmas.List.Sums.{sum_by-append}
 use Rattle.streamed_lines.specs.declared.ending.Ending.{Ending}
 use Rattle.streamed_lines.specs.declared.ending.Ending.TheVariants.{ReadFault, TooLong}
 use Rattle.streamed_lines.specs.declared.ending.Stop.{Stop}
+use Rattle.streamed_lines.specs.declared.ending.Stop.TheVariants.{BadLine as BadLineStop, TooLong as TooLongStop, Ends}
 use Rattle.streamed_lines.specs.declared.ending.Halt.{Halt}
 use Rattle.streamed_lines.specs.declared.ending.Halt.TheVariants.{Stops, Failed, NoMemory}
 use Rattle.streamed_lines.specs.Lines.{lines_in, is_whole, text_of, is_too_long, EndsWithItsFeed}
 use Rattle.streamed_lines.specs.Streams.{Rules, Stream, no_lines, next_number, with_answer, stream_or, goes_on, end_of_input, line_stream, stream_from, stream_of}
-use Rattle.streamed_lines.specs.Reading.{HaltsAt, DoesLine, StopsAt, IsAnswered, Gathers, RunsTo}
+use Rattle.streamed_lines.specs.Reading.{HaltsAt, DoesLine, StopsAt, IsAnswered, Gathers, RunsTo, IsHalted}
 use Rattle.streamed_lines.proofs.LineLaws.{lines_in-feed, whole-feed}
 
 may-not : (ended whole : Bool) → (ended || whole) ≡ true → (not ended && not whole) ≡ false
@@ -190,3 +191,20 @@ answered-gathers rules Ran n start stream line all before after new same number 
   ran = answered.ran;
   told = answered.told;
 }
+
+-- an answerer that was asked for a line that passes no limit halted there
+pub asked-halted : {R C W : Type 0} (Ran : W → R → Type 0) (Halted : W → R → List ℕ → Halt C → Type 0) (n start : ℕ)
+    (kept rest : List ℕ) (new : W) (stream : Stream R) (line all : List ℕ) (halt : Halt C) → line ≡ all
+    → n ≡ next_number stream → is_too_long n start line ≡ false → Halted new stream.run (text_of line) halt
+    → IsHalted Ran Halted start kept rest new stream all halt
+asked-halted {C = C} Ran Halted n start kept rest new stream line all halt same number fits halted =
+    subst (λ l. IsHalted Ran Halted start kept rest new stream l halt) same
+    (by halt (subst (λ m. is_too_long m start line ≡ false) number fits) halted)
+  where
+    by : (halt : Halt C) → is_too_long (next_number stream) start line ≡ false
+        → Halted new stream.run (text_of line) halt → IsHalted Ran Halted start kept rest new stream line halt
+    by (Stops TooLongStop) fits halted = inr halted
+    by (Stops BadLineStop) fits halted = halted
+    by (Stops (Ends cause)) fits halted = halted
+    by Failed fits halted = (fits, halted)
+    by NoMemory fits halted = inr (fits, halted)

@@ -1,5 +1,5 @@
 -- How far a stream has read: what was taken of its input, and what the lines in it left.
-use Rattle.std.specs.Prelude.{◌≡◌, ◌≢◌, ◌⊎◌, ℕ, ◌+◌, ◌≤◌, ◌||◌, Bool, true, false, List, [], ◌++◌, length, sum_by, Option, Result, Ok, Err}
+use Rattle.std.specs.Prelude.{◌≡◌, ◌≢◌, ◌⊎◌, ℕ, ◌+◌, ◌≤◌, ◌<◌, ◌||◌, Bool, true, false, List, [], ◌++◌, length, sum_by, Option, Result, Ok, Err}
 use Rattle.streamed_lines.specs.declared.TheConstants.{MOST_LINES, MOST_INPUT_BYTES}
 use Rattle.streamed_lines.specs.declared.ending.Ending.{Ending}
 use Rattle.streamed_lines.specs.declared.ending.Ending.TheVariants.{Complete, BadLine, ReadFault, TooLong, Ended}
@@ -129,21 +129,31 @@ pub record MayBeAnswered {R : Type 0} (ended : Bool) (bytes : List ℕ) (stream 
       is_too_long (next_number stream) (start_of bytes (next_number stream)) (line_at bytes (next_number stream)) ≡ false
   pub seen : (ended || is_whole (line_at bytes (next_number stream))) ≡ true
 
+-- The line behind those of a stream is kept: its text isn't empty, the last take gave some bytes, and the line began in
+-- front of these, or its line feed wasn't taken.
+pub record IsKeptNext {R : Type 0} (given : ℕ) (bytes : List ℕ) (stream : Stream R) : Type 0 where
+  pub some : next_text bytes stream ≢ []
+  pub more : 0 < given
+  pub parted :
+      (start_of bytes (next_number stream) + given < length bytes)
+      ⊎ (is_whole (line_at bytes (next_number stream)) ≡ false)
+
 module _ {R C W : Type 0} (Ran : W → R → Type 0) (Halted : W → R → List ℕ → Halt C → Type 0) where
   -- It was asked for a line that passes no limit, the next one, and halted there.
   abbrev pub HaltedAt : ℕ → W → Stream R → List ℕ → Halt C → Type 0
   HaltedAt start answerer stream line halt =
       (is_too_long (next_number stream) start line ≡ false) × Halted answerer stream.run (text_of line) halt
 
-  -- An answerer whose lines came to this stream and whose next line isn't answered: it halted there. Where the line passes
-  -- a limit it may not have been asked, and is where they left it; so where memory runs out and something was kept of it.
-  abbrev pub IsHalted : ℕ → List ℕ → W → Stream R → List ℕ → Halt C → Type 0
-  IsHalted start kept answerer stream line (Stops TooLongStop) =
+  -- An answerer whose lines came to this stream and whose next line isn't answered: it halted there. Where the line
+  -- passes a limit it may not have been asked, and is where they left it; so where memory runs out, something was kept
+  -- of it and more of it was taken.
+  abbrev pub IsHalted : ℕ → List ℕ → List ℕ → W → Stream R → List ℕ → Halt C → Type 0
+  IsHalted start kept rest answerer stream line (Stops TooLongStop) =
       Ran answerer stream.run ⊎ Halted answerer stream.run (text_of line) (Stops TooLongStop)
-  IsHalted start kept answerer stream line (Stops stop) = Halted answerer stream.run (text_of line) (Stops stop)
-  IsHalted start kept answerer stream line NoMemory =
-      (Ran answerer stream.run × (kept ≢ [])) ⊎ HaltedAt start answerer stream line NoMemory
-  IsHalted start kept answerer stream line Failed = HaltedAt start answerer stream line Failed
+  IsHalted start kept rest answerer stream line (Stops stop) = Halted answerer stream.run (text_of line) (Stops stop)
+  IsHalted start kept rest answerer stream line NoMemory =
+      (Ran answerer stream.run × (kept ≢ []) × (rest ≢ [])) ⊎ HaltedAt start answerer stream line NoMemory
+  IsHalted start kept rest answerer stream line Failed = HaltedAt start answerer stream line Failed
 
   -- The same, where the stream ended so. No answerer is asked for a line that is missing.
   abbrev pub IsLeft : W → R → List ℕ → Ending C → Type 0
@@ -158,13 +168,13 @@ module _ {R C W : Type 0} (Ran : W → R → Type 0) (Halted : W → R → List 
   HaltsNext ended bytes answerer stream halt =
       MayBeAnswered ended bytes stream × Halted answerer stream.run (next_text bytes stream) halt
 
-  -- And where the stream was broken off. Where memory ran out and the answerer wasn't asked, the sink takes some, or the
-  -- next line is kept, since its text isn't empty.
-  abbrev pub IsBroken : Bool → Bool → List ℕ → W → Stream R → Break → Type 0
-  IsBroken takes_memory ended bytes answerer stream WriteFault = Ran answerer stream.run
-  IsBroken takes_memory ended bytes answerer stream FailedBreak = HaltsNext ended bytes answerer stream Failed
-  IsBroken takes_memory ended bytes answerer stream NoMemoryBreak =
-      (Ran answerer stream.run × ((takes_memory ≡ true) ⊎ (next_text bytes stream ≢ [])))
+  -- And where the stream was broken off. Where memory ran out and the answerer wasn't asked, the sink takes some, or
+  -- the next line is kept.
+  abbrev pub IsBroken : Bool → ℕ → Bool → List ℕ → W → Stream R → Break → Type 0
+  IsBroken takes_memory given ended bytes answerer stream WriteFault = Ran answerer stream.run
+  IsBroken takes_memory given ended bytes answerer stream FailedBreak = HaltsNext ended bytes answerer stream Failed
+  IsBroken takes_memory given ended bytes answerer stream NoMemoryBreak =
+      (Ran answerer stream.run × ((takes_memory ≡ true) ⊎ IsKeptNext given bytes stream))
       ⊎ HaltsNext ended bytes answerer stream NoMemory
 
 -- ---- what ended a stream
@@ -196,29 +206,33 @@ module _ {R C W : Type 0} (rules : Rules R C) (first : R) (Ran : W → R → Typ
   IsPut WriteFault put text all = (rest : List ℕ) × (put ++ rest ≡ all)
   IsPut NoMemoryBreak put text all = (rest : List ℕ) × (put ++ rest ≡ all)
 
-  -- a stream that was broken off behind some lines of these bytes, whose answers were put or are gathered
-  pub record BreaksOff (takes_memory ended : Bool) (bytes put text : List ℕ) (why : Break) (answerer : W) : Type 0 where
+  -- a stream that was broken off behind some lines of these bytes, whose answers were put or are gathered; the last
+  -- take gave so many of them
+  pub record BreaksOff (takes_memory : Bool) (given : ℕ) (ended : Bool) (bytes put text : List ℕ) (why : Break)
+      (answerer : W) : Type 0 where
     pub front : List ℕ
     pub rest : List ℕ
     pub stream : Stream R
     pub whole : bytes ≡ front ++ rest
     pub runs : RunsTo rules first front stream
     pub put_is : IsPut why put text stream.text
-    pub broken : IsBroken Ran Halted takes_memory ended bytes answerer stream why
+    pub broken : IsBroken Ran Halted takes_memory given ended bytes answerer stream why
 
-  -- where these are told: the source gave bytes on which the stream was broken off, and the sink, which takes memory or
-  -- none, has taken what was put
-  pub record BrokeOff (takes_memory : Bool) (left later taken after : Option (List ℕ)) (text : List ℕ) (why : Break)
-      (answerer : W) : Type 0 where
+  -- where these are told: the source gave bytes on which the stream was broken off, so many in the last take, and the
+  -- sink, which takes memory or none, has taken what was put
+  pub record BrokeOff (takes_memory : Bool) (given : ℕ) (left later taken after : Option (List ℕ)) (text : List ℕ)
+      (why : Break) (answerer : W) : Type 0 where
     pub bytes : List ℕ
     pub ended : Bool
     pub put : List ℕ
     pub gave : Gave left later bytes ended
     pub wrote : Wrote taken after put
-    pub breaks : BreaksOff takes_memory ended bytes put text why answerer
+    pub breaks : BreaksOff takes_memory given ended bytes put text why answerer
 
-  -- a line of these bytes halted the stream, without the sink
-  abbrev pub HaltsWith : Bool → List ℕ → List ℕ → List ℕ → ℕ → W → Halt C → Type 0
-  HaltsWith ended bytes put text n answerer (Stops stop) = EndsAs ended bytes put text (ending_at n stop) answerer
-  HaltsWith ended bytes put text n answerer Failed = BreaksOff false ended bytes put text FailedBreak answerer
-  HaltsWith ended bytes put text n answerer NoMemory = BreaksOff false ended bytes put text NoMemoryBreak answerer
+  -- a line of these bytes halted the stream, without the sink; the last take gave so many of them
+  abbrev pub HaltsWith : ℕ → Bool → List ℕ → List ℕ → List ℕ → ℕ → W → Halt C → Type 0
+  HaltsWith given ended bytes put text n answerer (Stops stop) = EndsAs ended bytes put text (ending_at n stop) answerer
+  HaltsWith given ended bytes put text n answerer Failed =
+      BreaksOff false given ended bytes put text FailedBreak answerer
+  HaltsWith given ended bytes put text n answerer NoMemory =
+      BreaksOff false given ended bytes put text NoMemoryBreak answerer

@@ -8,7 +8,8 @@ use super::lines::{is_too_long, text_of};
 use super::reading::Reading;
 use super::{MOST_INPUT_BYTES, MOST_LINES};
 
-/// Answers the line that is kept with the rest of it into the text.
+/// Answers the line that is kept with the rest of it into the text. Where one of the two is empty, it takes no memory
+/// of its own.
 pub fn answer_kept<A: Answerer>(
     answerer: &mut A,
     reading: &mut Reading,
@@ -25,7 +26,7 @@ pub fn answer_kept<A: Answerer>(
         (StopsAt (A.rules answerer.old) reading.old.start stream (reading.old.line.items ++ rest.now)) }
     ensures halted { (stream : Stream A.Run) → A.ran answerer.old stream.run → reading.old.number ≡ next_number stream
         → IfErr result
-        (IsHalted A.ran A.halted reading.old.start reading.old.line.items answerer.new stream
+        (IsHalted A.ran A.halted reading.old.start reading.old.line.items rest.now answerer.new stream
         (reading.old.line.items ++ rest.now)) }
     ensures untold { OnErr result (text.new.items ≡ text.old.items) }
     ensures number { OnOk result (reading.new.number ≡ reading.old.number + 1) }
@@ -42,6 +43,8 @@ pub fn answer_kept<A: Answerer>(
     let mut kept = std::mem::replace(&mut reading.line, Vec::new(alloc));
     let line = if kept.is_empty() {
         rest
+    } else if rest.is_empty() {
+        kept.as_slice()
     } else {
         kept.extend_from_slice(rest)?;
         kept.as_slice()

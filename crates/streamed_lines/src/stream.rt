@@ -1,7 +1,7 @@
 ghost use Rattle.std.specs.Prelude.{◌≡◌, ◌≤◌, ◌<◌, ◌+◌, ◌++◌, ℕ, List, [], length, take, Ok, Err, true, false, is_err, IfOk, OnOk, OnErr, IfErr};
 ghost use Rattle.plasma_base.specs.Causes.{counted, faults_after};
 ghost use Rattle.plasma_outside.specs.declared.sink.SinkRefusal.{SinkRefusal};
-ghost use Rattle.plasma_outside.specs.Outside.{ends_after, is_failed};
+ghost use Rattle.plasma_outside.specs.Outside.{ends_after, given_by, is_failed};
 ghost use Rattle.streamed_lines.specs.declared.ending.Ending.{Ending};
 ghost use Rattle.streamed_lines.specs.Lines.{limit_of};
 ghost use Rattle.streamed_lines.specs.Streams.{Stream, next_number, end_of_input};
@@ -46,6 +46,7 @@ fn take_some<S: Source>(source: &mut S, room: &mut [u8], size: usize) -> Result<
         (is_err result) }
     ensures last { S.failed_last source.new ≡ is_err result }
     ensures end { S.ends source.new ≡ ends_after (S.ends source.old) result }
+    ensures given { S.given_last source.new ≡ given_by result }
 {
     source.take(&mut room[..size])
 }
@@ -59,6 +60,7 @@ fn answer_taken<A: Answerer>(
 ) -> Result<(), Halt<A::Cause>>
     requires kept { IsKept reading.old.number reading.old.start reading.old.line.items }
     requires ready { A.ready answerer.old }
+    requires some { 0 < length taken.now }
     requires bound { length taken.now ≤ room }
     requires few { reading.old.start + length reading.old.line.items + length taken.now
         < limit_of reading.old.number reading.old.start + room }
@@ -70,8 +72,8 @@ fn answer_taken<A: Answerer>(
     ensures halts { (first : A.Run) (bytes put : List ℕ)
         → Reads (A.rules answerer.old) first A.ran bytes put text.old.items
         reading.old.line.items reading.old.number reading.old.start answerer.old
-        → IfErr result (HaltsWith (A.rules answerer.old) first A.ran A.halted false (bytes ++ taken.now) put
-        text.new.items reading.new.number answerer.new) }
+        → IfErr result (HaltsWith (A.rules answerer.old) first A.ran A.halted (length taken.now) false
+        (bytes ++ taken.now) put text.new.items reading.new.number answerer.new) }
     ensures kept { OnOk result (IsKept reading.new.number reading.new.start reading.new.line.items) }
     ensures size { OnOk result (reading.new.start + length reading.new.line.items
         ≡ reading.old.start + length reading.old.line.items + length taken.now) }
@@ -117,7 +119,7 @@ fn answer_last<A: Answerer>(
         → Reads (A.rules answerer.old) first A.ran bytes put text.old.items
         reading.old.line.items reading.old.number reading.old.start answerer.old
         → IfErr result (λ why.
-        BreaksOff (A.rules answerer.old) first A.ran A.halted false true bytes put text.new.items why answerer.new) }
+        BreaksOff (A.rules answerer.old) first A.ran A.halted false 0 true bytes put text.new.items why answerer.new) }
     ensures rules { A.rules answerer.new ≡ A.rules answerer.old }
     ensures ready { result ≡ Ok Ending.Complete → A.ready answerer.new }
     ensures no_write { is_write_fault result ≡ false }
@@ -148,7 +150,8 @@ pub fn answer_lines<A: Answerer, S: Source, K: Sink>(
     ensures answered { IfOk result (λ ending. Answers (A.rules answerer.old) first A.ran A.halted (S.left source.old)
         (S.left source.new) (K.taken sink.old) (K.taken sink.new) text.new.items ending answerer.new) }
     ensures broken { IfErr result (λ why. BrokeOff (A.rules answerer.old) first A.ran A.halted K.takes_memory
-        (S.left source.old) (S.left source.new) (K.taken sink.old) (K.taken sink.new) text.new.items why answerer.new) }
+        (S.given_last source.new) (S.left source.old) (S.left source.new) (K.taken sink.old) (K.taken sink.new)
+        text.new.items why answerer.new) }
     ensures prompt { AnswersPromptly (answers_so_far (A.rules answerer.old) first) (S.left source.old) (S.left source.new)
         (S.failed_last source.new) (K.taken sink.old) (K.taken sink.new) }
     ensures reads { ReadsToFault (S.faults source.old) (S.faults source.new) (S.failed_last source.new)

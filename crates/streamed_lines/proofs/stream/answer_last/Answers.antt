@@ -20,7 +20,7 @@ returns-in-Ok-clause-ends g c =
 pub returns-in-Err-clause-ends : goal.returns-in-Err-clause-ends
 returns-in-Err-clause-ends g c =
     λ first bytes put reads.
-    halts-end _ _ g.A.Answerer.ran g.A.Answerer.halted true bytes put _ _ _ c.in-Err.halt _ c.outcome.ensures
+    halts-end _ _ g.A.Answerer.ran g.A.Answerer.halted 0 true bytes put _ _ _ c.in-Err.halt _ c.outcome.ensures
     (last-stops _ _ g.A.Answerer.ran g.A.Answerer.halted _ _ _ _ _ _ _ reads _ _ _ c.in-Err.halt
     c.in-Err.ensures.untold c.in-Err.ensures.same_number c.requires.kept
     (some-is c.args.reading.now.line.items _ (omega arith) (sym c.is_empty.ensures ∙ c.if-is_empty.false))
@@ -30,7 +30,7 @@ returns-in-Err-clause-ends g c =
 pub returns-in-Err-clause-breaks : goal.returns-in-Err-clause-breaks
 returns-in-Err-clause-breaks g c =
     λ first bytes put reads.
-    halts-break _ _ g.A.Answerer.ran g.A.Answerer.halted true bytes put _ _ _ c.in-Err.halt _ c.outcome.ensures
+    halts-break _ _ g.A.Answerer.ran g.A.Answerer.halted 0 true bytes put _ _ _ c.in-Err.halt _ c.outcome.ensures
     (last-stops _ _ g.A.Answerer.ran g.A.Answerer.halted _ _ _ _ _ _ _ reads _ _ _ c.in-Err.halt
     c.in-Err.ensures.untold c.in-Err.ensures.same_number c.requires.kept
     (some-is c.args.reading.now.line.items _ (omega arith) (sym c.is_empty.ensures ∙ c.if-is_empty.false))

@@ -31,7 +31,8 @@ pub returns-in-Ok-eq0-clause-broken : goal.returns-in-Ok-eq0-clause-broken
 returns-in-Ok-eq0-clause-broken g c =
     going-breaks _ _ _ _ _ _ _ _ _ _ _ _ c.loop-answerer.invariant.going g.A.Answerer.halted _ _ _
     (g.A.Answerer.rules c.loop-answerer.answerer) _ c.loop-answerer.invariant.rules
-    (rw c.in-Ok-eq0.field-0-test at c.in-Ok-eq0.ensures.ok) g.K.Sink.takes_memory c.answer_last.ensures.breaks
+    (rw c.in-Ok-eq0.field-0-test at c.in-Ok-eq0.ensures.ok) g.K.Sink.takes_memory _
+    (rw c.in-Ok-eq0.field-0-test at c.in-Ok-eq0.ensures.given) c.answer_last.ensures.breaks
 
 pub loop-answerer-preserved : goal.loop-answerer-preserved
 loop-answerer-preserved g c = record {
@@ -60,7 +61,7 @@ returns-in_err-put_text-in-Ok-answer_taken-clause-broken g c =
     (g.A.Answerer.rules c.loop-answerer.answerer) c.loop-answerer.invariant.rules
     c.in-Ok-answer_taken.ensures.reads)
     _ c.in_err-put_text-in-Ok-answer_taken.field-0.0 _ c.in_err-put_text-in-Ok-answer_taken.ensures.err
-    g.K.Sink.takes_memory (λ is. c.in_err-put_text-in-Ok-answer_taken.ensures.memory (ap Err is)))
+    g.K.Sink.takes_memory _ (λ is. c.in_err-put_text-in-Ok-answer_taken.ensures.memory (ap Err is)))
 
 pub returns-in-Err-answer_taken-clause-answered : goal.returns-in-Err-answer_taken-clause-answered
 returns-in-Err-answer_taken-clause-answered g c =
@@ -73,7 +74,7 @@ returns-in-Err-answer_taken-clause-broken g c =
     halt-breaks _ _ _ _ _ _ _ _ _ _ _ _ c.loop-answerer.invariant.going g.A.Answerer.halted _ _ _ _ _
     c.in-Err-answer_taken.halt (g.A.Answerer.rules c.loop-answerer.answerer) _ c.outcome.ensures
     c.loop-answerer.invariant.rules (gave-part _ _ _ c.in-Ok.ensures.ok) c.in-Err-answer_taken.ensures.halts
-    g.K.Sink.takes_memory
+    g.K.Sink.takes_memory _ (grind (arith, common_steps, c.in-Ok.ensures.given, c.in-Ok.ensures.bound))
 
 -- ---- the answers are written before more is read
 

@@ -53,7 +53,8 @@ returns-clause-halts g c =
     λ first bytes put reads.
     if-err _ _ _
     (λ halt at. way-ends _ _ _ _ _ _ _ _ _ _ _ _ _ _ c.loop-place.invariant.way g.A.Answerer.halted first bytes put
-    reads (plain-append c.loop-place.reading.line.items c.loop-place.rest.now c.loop-place.invariant.way.plain
+    reads c.requires.some
+    (plain-append c.loop-place.reading.line.items c.loop-place.rest.now c.loop-place.invariant.way.plain
     (plain-none c.loop-place.rest.now (sym c.feed_place.ensures.place ∙ c.in_default.is)))
     _ halt c.keep.ensures.number at)
     c.keep.ensures.stops
