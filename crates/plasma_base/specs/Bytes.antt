@@ -1,6 +1,8 @@
-use Rattle.std.specs.Prelude.{ℕ, List, [], ◌∷◌}
+use Rattle.std.specs.Prelude.{ℕ, List}
+use Rattle.plasma_base.specs.declared.bytes.Held.{Held}
+use Rattle.plasma_base.specs.declared.bytes.Held.TheVariants.{Own, Shared}
 
--- The bytes of a byte string: its own, unless it shares others.
-abbrev pub held_bytes : {S : Type 0} → (S → List ℕ) → List ℕ → List S → List ℕ
-held_bytes bytes_of own [] = own
-held_bytes bytes_of own (shared ∷ more) = bytes_of shared
+-- the bytes of a string, wherever they lie
+abbrev pub held_bytes : Held → List ℕ
+held_bytes (Own items) = items.items
+held_bytes (Shared items) = items.value.items
