@@ -118,8 +118,8 @@ module _ {A W : Type 0} (following : Following A) (Ran : W → LogRun A → Type
   put-of NoMemoryBreak put all is = is
 
   -- some lines were answered, and then it was broken off
-  pub ran-early : {takes_memory : Bool} (why : Break) (failed : Type 0) (refusal : SinkRefusal)
-      → BrokeOff (log_rules following) begun Ran Halted takes_memory left later taken put_then text why session
+  pub ran-early : {takes_memory : Bool} {given : ℕ} (why : Break) (failed : Type 0) (refusal : SinkRefusal)
+      → BrokeOff (log_rules following) begun Ran Halted takes_memory given left later taken put_then text why session
       → RunsLog following left later taken put_then failed (status_of_refusal refusal)
   ran-early why failed refusal broke =
       let is = broke.breaks in

@@ -70,14 +70,17 @@ module _ {N A L W : Type 0} (rules : Rules (SessionState A) (List ℕ)) (command
       })
 
   -- one whose next command met a device fault
-  pub faulted-runs : {takes_memory : Bool} (left later taken put_then after : Option (List ℕ)) (text : List ℕ) (failed : Type 0)
-      (status : Status) (why : Break) → why ≡ FailedBreak
-      → BrokeOff rules (begun found) Ran Halted takes_memory left later taken put_then text why session
+  pub faulted-runs : {takes_memory : Bool} {given : ℕ} (left later taken put_then after : Option (List ℕ))
+      (text : List ℕ) (failed : Type 0) (status : Status) (why : Break) → why ≡ FailedBreak
+      → BrokeOff rules (begun found) Ran Halted takes_memory given left later taken put_then text why session
       → EndsAs (fault_output text) status put_then after (Unit {0})
       → Runs (record { left = left; later = later; taken = taken; after = after }) failed status
-  faulted-runs {takes_memory = takes_memory} left later taken put_then after text failed status why same broken ends =
+  faulted-runs {takes_memory = takes_memory} {given = given} left later taken put_then after text failed status why same
+      broken ends =
       let broke =
-      subst (λ why. BrokeOff rules (begun found) Ran Halted takes_memory left later taken put_then text why session) same broken in
+      subst
+      (λ why. BrokeOff rules (begun found) Ran Halted takes_memory given left later taken put_then text why session)
+      same broken in
       let is = broke.breaks in
       inr
       (inl
@@ -95,9 +98,10 @@ module _ {N A L W : Type 0} (rules : Rules (SessionState A) (List ℕ)) (command
       }))
 
   -- one that was broken off for this, behind which the node is there
-  broken-runs : {Faulted : List RootCall → A → L → Type 0} {takes_memory : Bool}
+  broken-runs : {Faulted : List RootCall → A → L → Type 0} {takes_memory : Bool} {given : ℕ}
       (left later taken after : Option (List ℕ)) (text : List ℕ) (failed : Type 0) (why : Break)
-      (status : Status) (broke : BrokeOff rules (begun found) Ran Halted takes_memory left later taken after text why session)
+      (status : Status)
+      (broke : BrokeOff rules (begun found) Ran Halted takes_memory given left later taken after text why session)
       → (rest : List ℕ) × (broke.put ++ rest ≡ broke.breaks.stream.text)
       → BrokenAt command_in (λ at. IsAt node at) (λ log at command. IsStopped node log at command NodeMemory) status
       broke.ended broke.bytes broke.breaks.stream
@@ -117,38 +121,40 @@ module _ {N A L W : Type 0} (rules : Rules (SessionState A) (List ℕ)) (command
       }))
 
   -- one whose sink refused
-  pub refused-runs : {takes_memory : Bool} (left later taken after : Option (List ℕ)) (text : List ℕ) (failed : Type 0)
-      (why : Break) → why ≡ WriteBreak
-      → BrokeOff rules (begun found) Ran Halted takes_memory left later taken after text why session
+  pub refused-runs : {takes_memory : Bool} {given : ℕ} (left later taken after : Option (List ℕ)) (text : List ℕ)
+      (failed : Type 0) (why : Break) → why ≡ WriteBreak
+      → BrokeOff rules (begun found) Ran Halted takes_memory given left later taken after text why session
       → Runs (record { left = left; later = later; taken = taken; after = after }) failed WriteFault
-  refused-runs {takes_memory = takes_memory} left later taken after text failed why same broken =
+  refused-runs {takes_memory = takes_memory} {given = given} left later taken after text failed why same broken =
       let broke =
-      subst (λ why. BrokeOff rules (begun found) Ran Halted takes_memory left later taken after text why session) same broken in
+      subst (λ why. BrokeOff rules (begun found) Ran Halted takes_memory given left later taken after text why session)
+      same broken in
       broken-runs left later taken after text failed WriteBreak WriteFault broke broke.breaks.put_is
       (ran broke.breaks.stream.run broke.breaks.broken)
 
-  starved-at : (takes_memory ended : Bool) (bytes : List ℕ) (stream : Stream (SessionState A))
-      → IsBroken Ran Halted takes_memory ended bytes session stream NoMemoryBreak
+  starved-at : (takes_memory ended : Bool) (given : ℕ) (bytes : List ℕ) (stream : Stream (SessionState A))
+      → IsBroken Ran Halted takes_memory given ended bytes session stream NoMemoryBreak
       → IsAt node stream.run.node
       ⊎ AtNext command_in ended bytes stream (λ log at command. IsStopped node log at command NodeMemory)
-  starved-at takes_memory ended bytes stream (inl is) = inl (ran stream.run is.0)
-  starved-at takes_memory ended bytes stream (inr is) =
+  starved-at takes_memory ended given bytes stream (inl is) = inl (ran stream.run is.0)
+  starved-at takes_memory ended given bytes stream (inr is) =
       elim (halted stream.run (next_text bytes stream) NoMemoryHalt is.1) [
         | inl there ↦ inl there
         | inr stopped ↦ inr (is.0, stopped)
       ]
 
   -- one for which memory ran out
-  pub starved-runs : {Faulted : List RootCall → A → L → Type 0} {takes_memory : Bool}
+  pub starved-runs : {Faulted : List RootCall → A → L → Type 0} {takes_memory : Bool} {given : ℕ}
       (left later taken after : Option (List ℕ)) (text : List ℕ) (failed : Type 0)
       (why : Break) → why ≡ NoMemoryBreak
-      → BrokeOff rules (begun found) Ran Halted takes_memory left later taken after text why session
+      → BrokeOff rules (begun found) Ran Halted takes_memory given left later taken after text why session
       → RunsBy Faulted (record { left = left; later = later; taken = taken; after = after }) failed NoMemory
-  starved-runs {takes_memory = takes_memory} left later taken after text failed why same broken =
+  starved-runs {takes_memory = takes_memory} {given = given} left later taken after text failed why same broken =
       let broke =
-      subst (λ why. BrokeOff rules (begun found) Ran Halted takes_memory left later taken after text why session) same broken in
+      subst (λ why. BrokeOff rules (begun found) Ran Halted takes_memory given left later taken after text why session)
+      same broken in
       broken-runs left later taken after text failed NoMemoryBreak NoMemory broke broke.breaks.put_is
-      (starved-at takes_memory broke.ended broke.bytes broke.breaks.stream broke.breaks.broken)
+      (starved-at takes_memory broke.ended given broke.bytes broke.breaks.stream broke.breaks.broken)
 
 -- what a run did, in other words of where it leaves the node
 module _ {A L : Type 0} (rules : Rules (SessionState A) (List ℕ)) (command_in : List ℕ → Option L) (found : A)

@@ -134,8 +134,8 @@ module _ {W : Type 0} (RanTo : W → JudgedRun → Type 0) (Halted : W → Judge
   put-of NoMemory put all is = is
 
   -- it was broken off behind some lines
-  pub stops-so : {takes_memory : Bool} (why : Break)
-      → BrokeOff replay_rules (begun dig) RanTo Halted takes_memory left later taken after text why answerer
+  pub stops-so : {takes_memory : Bool} {given : ℕ} (why : Break)
+      → BrokeOff replay_rules (begun dig) RanTo Halted takes_memory given left later taken after text why answerer
       → StopsEarly left later taken after dig
   unfolding replay_of
   stops-so why broke =

@@ -37,17 +37,18 @@ module _ (node : Node) {W : Type 0} (Ran : W → LookState → Type 0)
   Lines tag ending =
       Answers (look_rules tag) (begun untold) Ran Halted left later taken put_then text ending session
 
-  abbrev BrokenLines : Bool → List ℕ → Break → Type 0
-  BrokenLines takes_memory tag why =
-      BrokeOff (look_rules tag) (begun untold) Ran Halted takes_memory left later taken put_then text why session
+  abbrev BrokenLines : Bool → ℕ → List ℕ → Break → Type 0
+  BrokenLines takes_memory given tag why =
+      BrokeOff (look_rules tag) (begun untold) Ran Halted takes_memory given left later taken put_then text why session
 
   pub lines-of : (tag : List ℕ) (ending : Ending (List ℕ)) → tag ≡ node.tag → Lines tag ending
       → Lines node.tag ending
   lines-of tag ending same lines = subst (λ t. Lines t ending) same lines
 
-  pub broken-of : {takes_memory : Bool} (tag : List ℕ) (why : Break) → tag ≡ node.tag
-      → BrokenLines takes_memory tag why → BrokenLines takes_memory node.tag why
-  broken-of {takes_memory = takes_memory} tag why same broke = subst (λ t. BrokenLines takes_memory t why) same broke
+  pub broken-of : {takes_memory : Bool} {given : ℕ} (tag : List ℕ) (why : Break) → tag ≡ node.tag
+      → BrokenLines takes_memory given tag why → BrokenLines takes_memory given node.tag why
+  broken-of {takes_memory = takes_memory} {given = given} tag why same broke =
+      subst (λ t. BrokenLines takes_memory given t why) same broke
 
   none-put : (put rest : List ℕ) → put ++ rest ≡ [] → put ≡ []
   none-put [] rest is = refl
@@ -117,8 +118,8 @@ module _ (node : Node) {W : Type 0} (Ran : W → LookState → Type 0)
   put-of NoMemoryBreak put all is = is
 
   -- one that was broken off
-  pub looks-early : {takes_memory : Bool} (why : Break) (failed : Type 0) (refusal : SinkRefusal)
-      → BrokeOff (look_rules node.tag) (begun untold) Ran Halted takes_memory left later taken put_then text why session
+  pub looks-early : {takes_memory : Bool} {given : ℕ} (why : Break) (failed : Type 0) (refusal : SinkRefusal)
+      → BrokeOff (look_rules node.tag) (begun untold) Ran Halted takes_memory given left later taken put_then text why session
       → Looks node (record { left = left; later = later; taken = taken; after = put_then }) failed
       (status_of_refusal refusal)
   looks-early why failed refusal broke =
