@@ -6,7 +6,7 @@ ghost use Rattle.node_rules.specs.WalletRecords.{secret_of};
 ghost use Rattle.world_rules.specs.World.{owner_of_rogue};
 
 use super::keys::{KeyPlace, MadeKey};
-use lms_sign::{SecretKey, sign};
+use lms_sign::{LmsTypes, SecretKey, sign};
 use node_rules::WalletIdentity;
 use plasma_base::{Bytes, NoMemory};
 use plasma_tx::{Body, Owner};
@@ -34,21 +34,23 @@ fn signed(alloc: Global, key: &SecretKey, leaf: u32, body: &Body) -> Result<Byte
 pub struct Rogue {
     alloc: Global,
     name: Bytes,
-    who: WalletIdentity,
+    account: u64,
+    seed: [u8; 32],
+    types: LmsTypes,
     place: KeyPlace,
 }
 
 impl Model for Rogue {
     ghost use Rattle.std.specs.Prelude.{◌≡◌, true};
     ghost use Rattle.lms_sign.specs.Types.{is_supported};
-    ghost use Rattle.node_rules.specs.WalletRecords.{secret_of};
     ghost use Rattle.world_rules.specs.World.{Rogue as Stranger};
+    ghost use Rattle.world_tokens.specs.Tokens.{secret_by};
 
     ghost Value = { Stranger };
 
-    ghost view = { λ r. record { name = r.name; account = r.who.account; secret = secret_of r.who } };
+    ghost view = { λ r. record { name = r.name; account = r.account; secret = secret_by r.types r.seed } };
 
-    ghost invariant = { λ r. is_supported r.who.types ≡ true };
+    ghost invariant = { λ r. is_supported r.types ≡ true };
 }
 
 impl Rogue {
@@ -61,7 +63,9 @@ impl Rogue {
         Rogue {
             alloc,
             name,
-            who: *who,
+            account: who.account,
+            seed: who.seed,
+            types: who.types,
             place,
         }
     }
@@ -77,7 +81,7 @@ impl Rogue {
     pub fn account(&self) -> u64
         ensures { result ≡ self.now.account }
     {
-        self.who.account
+        self.account
     }
 
     /// The owner that it is: its account and its public key. Want of memory is its one refusal.
@@ -117,17 +121,30 @@ impl Rogue {
         }
     }
 
+    // An identity with its key. A key doesn't depend on a chain, so it has no tag.
+    fn identity(&self) -> WalletIdentity
+        ensures secret { secret_of result ≡ self.now.secret }
+        ensures types { is_supported result.types ≡ true }
+    {
+        WalletIdentity {
+            tag: [0; 32],
+            account: self.account,
+            seed: self.seed,
+            types: self.types,
+        }
+    }
+
     // The key, made anew.
     fn make(&self) -> Result<MadeKey, NoMemory>
         ensures { IfOk result (λ made. secret_of made ≡ self.now.secret) }
     {
-        MadeKey::make(self.alloc, &self.who)
+        MadeKey::make(self.alloc, &self.identity())
     }
 
     // The key that is kept, lent, unless that of another identity is. The first call makes it.
     fn kept(&self) -> Result<Option<&SecretKey>, NoMemory>
         ensures { IfOk result (λ found. IfSome found (λ key. key.now ≡ self.now.secret)) }
     {
-        self.place.key_of(self.alloc, &self.who)
+        self.place.key_of(self.alloc, &self.identity())
     }
 }
