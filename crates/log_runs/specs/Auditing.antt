@@ -1,5 +1,5 @@
 -- What a run of an audit does behind the lines of its log.
-use Rattle.std.specs.Prelude.{ℕ, Bool, true, false, if◌then◌else◌, List, ◌∷◌, codes, Option, Some, None, Result, Ok, Err}
+use Rattle.std.specs.Prelude.{◌≡◌, ℕ, Bool, true, false, if◌then◌else◌, List, ◌∷◌, codes, Option, Some, None, IsSome, Result, Ok, Err}
 use Rattle.plasma_base.specs.HexText.{hex_in}
 use Rattle.plasma_tx.specs.Chain.{Chain, with_log}
 use Rattle.receipt_audit.specs.declared.audit.Conviction.{Conviction}
@@ -56,3 +56,7 @@ auditing dig key receipt = record {
   command = audit_line dig key receipt;
   may_end = λ at. at.is_answered;
 }
+
+-- behind the log memory is taken for a bundle, which is answered once
+abbrev pub audit_takes_memory : AuditAt → List ℕ → Type 0
+audit_takes_memory at line = (at.is_answered ≡ false) × IsSome (hex_in line)

@@ -2,6 +2,7 @@ pub mod Following
 pub mod Kept
 pub mod Texts
 pub mod Runs
+pub mod Lacking
 pub mod Grammar
 pub mod Archiving
 pub mod Holds

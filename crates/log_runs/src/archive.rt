@@ -7,6 +7,8 @@ ghost use Rattle.log_runs.specs.Following.{begun, log_rules};
 ghost use Rattle.log_runs.specs.Archiving.{archiving};
 ghost use Rattle.log_runs.specs.Runs.{RunsLog};
 ghost use Rattle.log_runs.specs.Complete.{LogComplete};
+ghost use Rattle.log_runs.specs.Lacking.{LacksMemory};
+ghost use Rattle.log_runs.specs.Grammar.{archive_takes_memory};
 
 use super::archive_asks::answer_ask;
 use super::archive_line::{ArchiveLine, read_archive_line};
@@ -100,6 +102,9 @@ pub fn run_archive<H: Hash32 + Copy, S: Source, K: Sink>(
     ensures prompt { AnswersPromptly (answers_so_far (log_rules (archiving (H.digest_of h))) begun)
         (S.left source.old) (S.left source.new) (S.failed_last source.new) (K.taken sink.old) (K.taken sink.new) }
     ensures complete { LogComplete (archiving (H.digest_of h)) (S.left source.old) result }
+    ensures memory { K.takes_memory ≡ false → result ≡ Status.NoMemory
+        → LacksMemory (archiving (H.digest_of h)) (λ _. archive_takes_memory) (S.given_last source.new)
+        (S.left source.old) (S.left source.new) }
     ensures source_memory { K.takes_memory ≡ false → result ≡ Status.NoMemory
         → ReadsToFault (S.faults source.old) (S.faults source.new) (S.failed_last source.new) false }
     ensures source_faults { ReadsBy result

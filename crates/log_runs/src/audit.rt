@@ -8,6 +8,8 @@ ghost use Rattle.log_runs.specs.Following.{begun, log_rules};
 ghost use Rattle.log_runs.specs.Auditing.{auditing, convicted_text};
 ghost use Rattle.log_runs.specs.Runs.{RunsLog};
 ghost use Rattle.log_runs.specs.Complete.{LogComplete};
+ghost use Rattle.log_runs.specs.Lacking.{LacksMemory};
+ghost use Rattle.log_runs.specs.Auditing.{audit_takes_memory};
 
 use super::causes::audit_halt;
 use super::follower::Follower;
@@ -46,9 +48,7 @@ fn push_convicted(out: &mut Vec<u8>, conviction: &Conviction) -> Result<(), NoMe
 }
 
 impl<H: Hash32 + Drop> Follower for Auditor<H> {
-    ghost use Rattle.std.specs.Prelude.{◌≡◌, false, IsSome};
-    ghost use Rattle.plasma_base.specs.HexText.{hex_in};
-    ghost use Rattle.log_runs.specs.Auditing.{AuditAt, auditing};
+    ghost use Rattle.log_runs.specs.Auditing.{AuditAt, auditing, audit_takes_memory};
     ghost use Rattle.log_runs.specs.Audits.{audit_at};
 
     type Kept = AuditLog;
@@ -59,7 +59,7 @@ impl<H: Hash32 + Drop> Follower for Auditor<H> {
 
     ghost is_at = { λ _ kept at. audit_at kept ≡ at };
 
-    ghost takes_memory = { λ at line. (at.is_answered ≡ false) × IsSome (hex_in line) };
+    ghost takes_memory = { audit_takes_memory };
 
     fn begin(&self, _alloc: Global, log: RootLog) -> AuditLog {
         AuditLog {
@@ -131,6 +131,9 @@ pub fn run_audit<H: Hash32 + Drop, S: Source, K: Sink>(
     ensures prompt { AnswersPromptly (answers_so_far (log_rules (auditing (H.digest_of h) key receipt)) begun)
         (S.left source.old) (S.left source.new) (S.failed_last source.new) (K.taken sink.old) (K.taken sink.new) }
     ensures complete { LogComplete (auditing (H.digest_of h) key receipt) (S.left source.old) result }
+    ensures memory { K.takes_memory ≡ false → result ≡ Status.NoMemory
+        → LacksMemory (auditing (H.digest_of h) key receipt) audit_takes_memory (S.given_last source.new)
+        (S.left source.old) (S.left source.new) }
     ensures source_memory { K.takes_memory ≡ false → result ≡ Status.NoMemory
         → ReadsToFault (S.faults source.old) (S.faults source.new) (S.failed_last source.new) false }
     ensures source_faults { ReadsBy result

@@ -7,6 +7,7 @@ ghost use Rattle.run_endings.specs.Statuses.{is_write_fault, ReadsBy};
 ghost use Rattle.log_runs.specs.Following.{begun, log_rules};
 ghost use Rattle.log_runs.specs.Runs.{RunsLog, status_of_run};
 ghost use Rattle.log_runs.specs.Complete.{LogComplete};
+ghost use Rattle.log_runs.specs.Lacking.{LacksMemory};
 
 use super::follower::Follower;
 use super::log_session::LogSession;
@@ -33,6 +34,9 @@ fn answer_log<F: Follower + Drop, S: Source, K: Sink>(
     ensures reads { ReadsBy (status_of_run result)
         (ReadsToFault (S.faults source.old) (S.faults source.new) (S.failed_last source.new)) }
     ensures end { ReadsToEnd (S.ends source.old) (S.ends source.new) }
+    ensures memory { K.takes_memory ≡ false → result ≡ Err SinkRefusal.NoMemory
+        → LacksMemory (F.following follower) F.takes_memory (S.given_last source.new)
+        (S.left source.old) (S.left source.new) }
     ensures source_memory { K.takes_memory ≡ false → result ≡ Err SinkRefusal.NoMemory
         → ReadsToFault (S.faults source.old) (S.faults source.new) (S.failed_last source.new) false }
     ensures cause { K.faults sink.new ≡ faults_after (K.faults sink.old) (is_failed result) }
@@ -65,6 +69,9 @@ pub fn run_log<F: Follower + Drop, S: Source, K: Sink>(
     ensures prompt { AnswersPromptly (answers_so_far (log_rules (F.following follower)) begun)
         (S.left source.old) (S.left source.new) (S.failed_last source.new) (K.taken sink.old) (K.taken sink.new) }
     ensures complete { LogComplete (F.following follower) (S.left source.old) result }
+    ensures memory { K.takes_memory ≡ false → result ≡ Status.NoMemory
+        → LacksMemory (F.following follower) F.takes_memory (S.given_last source.new)
+        (S.left source.old) (S.left source.new) }
     ensures source_memory { K.takes_memory ≡ false → result ≡ Status.NoMemory
         → ReadsToFault (S.faults source.old) (S.faults source.new) (S.failed_last source.new) false }
     ensures source_faults { ReadsBy result

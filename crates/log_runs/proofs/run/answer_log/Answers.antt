@@ -7,6 +7,7 @@ use Rattle.streamed_lines.proofs.OutsideLaws.{front-whole}
 use Rattle.run_endings.proofs.PromptLaws.{prompt-last, composed-reads}
 use Rattle.plasma_outside.specs.declared.sink.SinkRefusal.TheVariants.{Failed, NoMemory}
 use Rattle.log_runs.proofs.RunLaws.{by-error, ran-early, ran-part, ran-whole}
+use Rattle.log_runs.proofs.LackLaws.{lacks-broken, lacks-composed}
 use Rattle.log_runs.proofs.run.answer_log.Goals as goal
 
 pub answer_lines-requires : goal.answer_lines-requires
@@ -79,4 +80,25 @@ returns-in_err-put_last-in-Ok-clause-source_memory g c = λ none is.
           (ReadsToFault (g.S.Source.faults c.args.source.now) (g.S.Source.faults c.answer_lines.new.source)
           (g.S.Source.failed_last c.answer_lines.new.source))
           c.in-Ok.ending composed c.in-Ok.ensures.reads
+    ]
+
+-- ---- where it lacks memory
+
+pub returns-in-Err-NoMemory-clause-memory : goal.returns-in-Err-NoMemory-clause-memory
+returns-in-Err-NoMemory-clause-memory g c = λ none is.
+    rw (← c.new-session.ensures.follower)
+    (lacks-broken (g.F.Follower.following c.new-session.result.follower) _ _ _ _ _ _ _ _ _ none
+    (λ run line halted. halted) c.in-Err-NoMemory.field-0 c.in-Err-NoMemory.field-0-is
+    c.in-Err-NoMemory.ensures.broken)
+
+pub returns-in_err-put_last-in-Ok-clause-memory : goal.returns-in_err-put_last-in-Ok-clause-memory
+returns-in_err-put_last-in-Ok-clause-memory g c = λ none is.
+    let p = err_from_is_err_and c.from_residual.result c.from_residual.ensures.1 in
+    let wants : c.in_err-put_last-in-Ok.field-0.0 ≡ NoMemory = cc (p.1, p.2, is) in
+    elim (c.in_err-put_last-in-Ok.ensures.memory (ap Err wants)) [
+      | inl takes ↦ absurd (false≢true (sym none ∙ takes))
+      | inr composed ↦
+          rw (← c.new-session.ensures.follower)
+          (lacks-composed (g.F.Follower.following c.new-session.result.follower) _ _ _ _ _ _ _ _ _ c.in-Ok.ending
+          c.in-Ok.ensures.answered composed)
     ]
