@@ -1,4 +1,5 @@
 use super::case_file::CaseFile;
+use super::running::Runs;
 use super::stage::Stage;
 use super::table::Case;
 use anyhow::Result;
@@ -14,8 +15,9 @@ pub struct Tally {
 }
 
 // How a combination of a case's rows isn't as expected, where it isn't, and how many runs it made.
-fn play_rows<R: Files<File = File> + AllocGlobal>(
+fn play_rows<R: Files<File = File> + AllocGlobal, P: Runs>(
     rt: &R,
+    runs: &P,
     head: &[&str],
     case: &Case<'_>,
     rows: u64,
@@ -23,30 +25,32 @@ fn play_rows<R: Files<File = File> + AllocGlobal>(
 ) -> Result<(Option<String>, u64)> {
     let mut stage = Stage::new(rt.alloc());
     for line in head {
-        let _ = stage.take(rt, line)?;
+        let _ = stage.take(rt, runs, line)?;
     }
     *told = case.bind(rt.alloc(), rows, &mut stage.names)?;
-    let difference = play_body(rt, &mut stage, case.body.as_slice())?;
+    let difference = play_body(rt, runs, &mut stage, case.body.as_slice())?;
     stage.leave(rt)?;
     Ok((difference, stage.runs))
 }
 
 // How the first run that isn't as expected differs.
-fn play_body<R: Files<File = File> + AllocGlobal>(
+fn play_body<R: Files<File = File> + AllocGlobal, P: Runs>(
     rt: &R,
+    runs: &P,
     stage: &mut Stage,
     body: &[&str],
 ) -> Result<Option<String>> {
     for line in body {
-        if let Some(difference) = stage.take(rt, line)? {
+        if let Some(difference) = stage.take(rt, runs, line)? {
             return Ok(Some(difference));
         }
     }
-    stage.close(rt)
+    stage.close(rt, runs)
 }
 
-fn play_case<R: Files<File = File> + Print + AllocGlobal>(
+fn play_case<R: Files<File = File> + Print + AllocGlobal, P: Runs>(
     rt: &R,
+    runs: &P,
     file: &str,
     head: &[&str],
     case: &Case<'_>,
@@ -57,7 +61,7 @@ fn play_case<R: Files<File = File> + Print + AllocGlobal>(
     for rows in 0..case.count() {
         tally.cases = tally.cases.saturating_add(1);
         let mut told = String::new(alloc);
-        let difference = match play_rows(rt, head, case, rows, &mut told) {
+        let difference = match play_rows(rt, runs, head, case, rows, &mut told) {
             Ok((difference, runs)) => {
                 tally.runs = tally.runs.saturating_add(runs);
                 difference
@@ -72,10 +76,11 @@ fn play_case<R: Files<File = File> + Print + AllocGlobal>(
     Ok(())
 }
 
-/// Plays the cases of a file, whose text and whose shared names are given. Prints a line for each that isn't as
+/// Plays the cases of a file, whose text and whose shared names are given, by what makes their runs. Prints a line for each that isn't as
 /// expected. An `Err` says why the file can't be played, or that memory or the output failed.
-pub fn play_file<R: Files<File = File> + Print + AllocGlobal>(
+pub fn play_file<R: Files<File = File> + Print + AllocGlobal, P: Runs>(
     rt: &R,
+    runs: &P,
     file: &str,
     names: &str,
     text: &str,
@@ -89,7 +94,7 @@ pub fn play_file<R: Files<File = File> + Print + AllocGlobal>(
     };
     for lines in cases.cases.iter() {
         let case = Case::read(alloc, lines.as_slice())?;
-        play_case(rt, file, cases.head.as_slice(), &case, &mut tally)?;
+        play_case(rt, runs, file, cases.head.as_slice(), &case, &mut tally)?;
     }
     Ok(tally)
 }

@@ -7,7 +7,6 @@ use super::disks::Disks;
 use anyhow::{Result, bail};
 use crash_disk::{Disk, FileDisk};
 use plasma_outside::{MemSink, MemSource, Source};
-use replay_run::{Ended, run_with};
 use std::alloc::Global;
 use std::fs::{self, File, Files};
 
@@ -37,22 +36,20 @@ fn source(alloc: Global, ask: &Ask) -> Result<MemSource> {
     Ok(MemSource::make(bytes, pieces, fails))
 }
 
-// The run without a clause, so that no proof below carries what is known of it.
-fn ran<D: Disk>(
-    alloc: Global,
-    digest: &CaseDigest,
-    words: &[String],
-    source: &mut MemSource,
-    sink: &mut MemSink,
-    notes: D,
-    leaves: D,
-) -> (u8, D, D) {
-    let Ended {
-        status,
-        notes,
-        leaves,
-    } = run_with(alloc, digest, words, source, sink, notes, leaves);
-    (status.code(), notes, leaves)
+/// What makes the runs of cases. It stands apart, so that a player needs no proof of what it plays.
+pub trait Runs {
+    /// Makes a run of these words over this source, this sink and these disks, which it hands back behind the number
+    /// of its status.
+    fn run<D: Disk>(
+        &self,
+        alloc: Global,
+        digest: &CaseDigest,
+        words: &[String],
+        source: &mut MemSource,
+        sink: &mut MemSink,
+        notes: D,
+        leaves: D,
+    ) -> (u8, D, D);
 }
 
 // How many bytes the source has left: what it gives until its end, whatever call of it is to fail.
@@ -70,12 +67,26 @@ fn left_in(alloc: Global, source: &mut MemSource, most: usize) -> Result<u64> {
 }
 
 /// Makes a run over the disks in memory, which crash behind it where the case says so.
-pub fn play(alloc: Global, digest: &CaseDigest, ask: &Ask, disks: &mut Disks) -> Result<Found> {
+pub fn play<P: Runs>(
+    alloc: Global,
+    runs: &P,
+    digest: &CaseDigest,
+    ask: &Ask,
+    disks: &mut Disks,
+) -> Result<Found> {
     let mut source = source(alloc, ask)?;
     let mut sink = MemSink::make(alloc, ask.sink_fails.as_slice().to_vec(alloc)?);
     let Disks { notes, leaves } = disks.take(alloc, &ask.notes, &ask.leaves)?;
     let words = ask.words.as_slice();
-    let (status, notes, leaves) = ran(alloc, digest, words, &mut source, &mut sink, notes, leaves);
+    let (status, notes, leaves) = runs.run(
+        alloc,
+        digest,
+        words,
+        &mut source,
+        &mut sink,
+        notes,
+        leaves,
+    );
     *disks = Disks { notes, leaves };
     if let Some(text) = &ask.crash {
         disks.crash(alloc, text.as_str())?;
@@ -91,8 +102,9 @@ pub fn play(alloc: Global, digest: &CaseDigest, ask: &Ask, disks: &mut Disks) ->
 }
 
 /// Makes a run over the two files.
-pub fn play_over_files<R: Files<File = File> + AllocGlobal>(
+pub fn play_over_files<R: Files<File = File> + AllocGlobal, P: Runs>(
     rt: &R,
+    runs: &P,
     digest: &CaseDigest,
     ask: &Ask,
 ) -> Result<Found> {
@@ -100,7 +112,7 @@ pub fn play_over_files<R: Files<File = File> + AllocGlobal>(
     let mut source = source(alloc, ask)?;
     let mut sink = MemSink::make(alloc, ask.sink_fails.as_slice().to_vec(alloc)?);
     let words = ask.words.as_slice();
-    let (status, _, _) = ran(
+    let (status, _, _) = runs.run(
         alloc,
         digest,
         words,

@@ -4,14 +4,13 @@ use super::disks::{Disks, cut_disk, disk_of};
 use super::names::Names;
 use super::numbers::{number, numbers};
 use super::report::report;
-use super::running::{Found, play, play_over_files, remove_files};
+use super::running::{Found, Runs, play, play_over_files, remove_files};
 use anyhow::{Result, bail};
 use std::alloc::Global;
 use std::fs::{File, Files};
 
 /// Where the runs of a case take place: the disks, which one run hands to the next, what the last one wrote,
 /// and the run that is being gathered.
-#[derive(Drop)]
 pub struct Stage {
     alloc: Global,
     pub names: Names,
@@ -21,6 +20,22 @@ pub struct Stage {
     output: Vec<u8>,
     ask: Option<Ask>,
     pub runs: u64,
+}
+
+// Written by hand, so that each place that lets one go calls it; a derived one is proved anew at each.
+impl Drop for Stage {
+    fn drop(self) {
+        let Stage {
+            alloc: _,
+            names: _,
+            digest: _,
+            disks: _,
+            is_folder: _,
+            output: _,
+            ask: _,
+            runs: _,
+        } = self;
+    }
 }
 
 impl Stage {
@@ -39,9 +54,10 @@ impl Stage {
     }
 
     /// Takes a line of the case. Where that ends a run which wasn't as expected, how it differs.
-    pub fn take<R: Files<File = File> + AllocGlobal>(
+    pub fn take<R: Files<File = File> + AllocGlobal, P: Runs>(
         &mut self,
         rt: &R,
+        runs: &P,
         line: &str,
     ) -> Result<Option<String>> {
         if let Some((asked, answer)) = line.split_once(" => ") {
@@ -62,7 +78,7 @@ impl Stage {
                 Ok(None)
             }
             "run" | "let" | "notes" | "leaves" | "cut" | "digest" | "folder" => {
-                let told = self.close(rt)?;
+                let told = self.close(rt, runs)?;
                 self.change(rt, first, rest)?;
                 Ok(told)
             }
@@ -210,16 +226,20 @@ impl Stage {
     }
 
     /// Makes the run that was gathered. How it differs from what is expected, where it does.
-    pub fn close<R: Files<File = File> + AllocGlobal>(&mut self, rt: &R) -> Result<Option<String>> {
+    pub fn close<R: Files<File = File> + AllocGlobal, P: Runs>(
+        &mut self,
+        rt: &R,
+        runs: &P,
+    ) -> Result<Option<String>> {
         let Some(ask) = self.ask.take() else {
             return Ok(None);
         };
         self.runs = self.runs.saturating_add(1);
         self.digest.calls.set(0);
         let found = if self.is_folder {
-            play_over_files(rt, &self.digest, &ask)?
+            play_over_files(rt, runs, &self.digest, &ask)?
         } else {
-            play(self.alloc, &self.digest, &ask, &mut self.disks)?
+            play(self.alloc, runs, &self.digest, &ask, &mut self.disks)?
         };
         let digests = self.digest.calls.get();
         let told = report(self.alloc, &mut self.names, &ask.want, &found, digests)?;

@@ -5,6 +5,7 @@
 
 use anyhow::{Result, bail};
 use case_runs::{Tally, play_file};
+use plasma_runs::PlasmaRuns;
 use std::{env, fs};
 
 /// What stands in this file is read in front of the cases of each other.
@@ -17,7 +18,13 @@ fn main(rt: HostRuntime) -> Result<()> {
     let mut wrong = 0u64;
     for file in files.iter() {
         let text = fs::read_to_string(&rt, file.as_str())?;
-        let tally = play_file(&rt, file.as_str(), names.as_str(), text.as_str())?;
+        let tally = play_file(
+            &rt,
+            &PlasmaRuns,
+            file.as_str(),
+            names.as_str(),
+            text.as_str(),
+        )?;
         let Tally {
             cases,
             runs,
