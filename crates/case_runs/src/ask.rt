@@ -2,6 +2,7 @@ use super::disks::Faults;
 use std::alloc::Global;
 
 /// A run, and what is expected of it, as its lines are gathered.
+#[derive(Drop)]
 pub struct Ask {
     pub words: Vec<String>,
     pub input: Vec<u8>,
@@ -16,25 +17,8 @@ pub struct Ask {
     pub want: Wanted,
 }
 
-// Written by hand, so that each place that lets one go calls it; a derived one is proved anew at each.
-impl Drop for Ask {
-    fn drop(self) {
-        let Ask {
-            words: _,
-            input: _,
-            lines: _,
-            pieces: _,
-            source_fails: _,
-            sink_fails: _,
-            notes: _,
-            leaves: _,
-            crash: _,
-            want: _,
-        } = self;
-    }
-}
-
 /// What is expected of a run. What is left out may be anything.
+#[derive(Drop)]
 pub struct Wanted {
     pub status: u8,
     pub lines: Vec<String>,
@@ -46,21 +30,6 @@ pub struct Wanted {
     pub digests: Option<u64>,
     pub notes: Option<String>,
     pub leaves: Option<String>,
-}
-
-// As that of a run.
-impl Drop for Wanted {
-    fn drop(self) {
-        let Wanted {
-            status: _,
-            lines: _,
-            text: _,
-            left: _,
-            digests: _,
-            notes: _,
-            leaves: _,
-        } = self;
-    }
 }
 
 impl Ask {

@@ -10,25 +10,13 @@ struct Part<'a> {
 
 /// A file of cases: the lines that are read before each case, and the lines of each case, the first of which
 /// has its title.
+#[derive(Drop)]
 pub struct CaseFile<'a> {
     alloc: Global,
     pub head: Vec<&'a str>,
     pub cases: Vec<Vec<&'a str>>,
     parts: Vec<Part<'a>>,
     open: Option<Part<'a>>,
-}
-
-// Written by hand, so that each place that lets one go calls it; a derived one is proved anew at each.
-impl Drop for CaseFile<'_> {
-    fn drop(self) {
-        let CaseFile {
-            alloc: _,
-            head: _,
-            cases: _,
-            parts: _,
-            open: _,
-        } = self;
-    }
 }
 
 impl<'a> CaseFile<'a> {

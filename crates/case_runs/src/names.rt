@@ -11,16 +11,10 @@ struct Name {
 }
 
 /// The names that a case knows. A later one hides an earlier one.
+#[derive(Drop)]
 pub struct Names {
     alloc: Global,
     items: Vec<Name>,
-}
-
-// Written by hand, so that each place that lets one go calls it; a derived one is proved anew at each.
-impl Drop for Names {
-    fn drop(self) {
-        let Names { alloc: _, items: _ } = self;
-    }
 }
 
 impl Names {

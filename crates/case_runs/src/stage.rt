@@ -11,6 +11,7 @@ use std::fs::{File, Files};
 
 /// Where the runs of a case take place: the disks, which one run hands to the next, what the last one wrote,
 /// and the run that is being gathered.
+#[derive(Drop)]
 pub struct Stage {
     alloc: Global,
     pub names: Names,
@@ -20,22 +21,6 @@ pub struct Stage {
     output: Vec<u8>,
     ask: Option<Ask>,
     pub runs: u64,
-}
-
-// Written by hand, so that each place that lets one go calls it; a derived one is proved anew at each.
-impl Drop for Stage {
-    fn drop(self) {
-        let Stage {
-            alloc: _,
-            names: _,
-            digest: _,
-            disks: _,
-            is_folder: _,
-            output: _,
-            ask: _,
-            runs: _,
-        } = self;
-    }
 }
 
 impl Stage {

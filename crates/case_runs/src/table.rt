@@ -21,21 +21,11 @@ struct Table<'a> {
 }
 
 /// A case: its title, its tables and its other lines. It is played for each combination of rows.
+#[derive(Drop)]
 pub struct Case<'a> {
     pub title: &'a str,
     tables: Vec<Table<'a>>,
     pub body: Vec<&'a str>,
-}
-
-// Written by hand, so that each place that lets one go calls it; a derived one is proved anew at each.
-impl Drop for Case<'_> {
-    fn drop(self) {
-        let Case {
-            title: _,
-            tables: _,
-            body: _,
-        } = self;
-    }
 }
 
 impl<'a> Case<'a> {
